@@ -1,0 +1,32 @@
+-- Truth: a model says which variables are given and which are true; a clause is true by a literal that is.
+-- Assumes nothing.
+use Prim.Native.Nat.{ℕ, _-_}
+use mathlib.Core.Bool.{Bool, true, false, not, _&&_}
+use mathlib.Core.List.{List}
+use lib.ListN.{getD}
+use Rattle.rules.specs.Counting.{every, any}
+use Rattle.rules.specs.Families.{Literal, plus, minus, Clause}
+use Rattle.rules.specs.Rows.{Rows, bitOfVariable}
+
+pub record Model : Type 0 where
+  pub given : ℕ → Bool
+  pub isTrue : ℕ → Bool
+
+-- a positive literal is true where its variable is given and true, a negative one where it is given and not true
+unfoldable pub literalTrue : Model → Literal → Bool
+literalTrue M (plus v) = M .given v && M .isTrue v
+literalTrue M (minus v) = M .given v && not (M .isTrue v)
+
+unfoldable pub clauseTrue : Model → Clause → Bool
+clauseTrue M c = any (literalTrue M) c
+
+unfoldable pub satisfies : Model → List Clause → Bool
+satisfies M cs = every (clauseTrue M) cs
+
+-- the model that two rows of bits state
+abbrev pub modelIn : Rows → Model
+modelIn rows = record { given = bitOfVariable (rows .given); isTrue = bitOfVariable (rows .isTrue) }
+
+-- an assignment of the variables 1, 2, and so on gives each of them
+abbrev pub assigned : List Bool → Model
+assigned bits = record { given = λ v. true; isTrue = λ v. getD bits (v - 1) false }

@@ -1,0 +1,54 @@
+// The types that all floors share. This crate has no functions: its definitions are in specs/, what is proved of them in proofs/.
+
+// Why a call refuses, in the order of the rules' table; what a variant holds is the refusal's detail.
+pub enum Refusal {
+    FileLength,
+    ContentsRow(usize),
+    BodyLength,
+    DomainSize(usize),
+    StartValue(usize),
+    GoalPair(usize),
+    ActionAtFault(usize),
+    Horizon,
+    ClauseNumber,
+    Room,
+    Grammar(usize),
+    OutOfPlace(usize),
+    OverN(usize),
+    GivenBefore(usize),
+    Unfinished,
+    NotGiven(usize),
+    FalseClause(usize),
+    Unsatisfiable,
+    Unknown,
+    EntryOverA(usize),
+    DoesNotApply(usize),
+    GoalUnmet(usize),
+}
+
+// The answer of a call that only judges.
+pub enum Verdict {
+    Accepted,
+    Refused(Refusal),
+}
+
+// How far a solver's output has been read: no status yet, SATISFIABLE with its model open or closed, or one of the two other statuses.
+pub enum Phase {
+    NoStatus,
+    ModelOpen,
+    ModelClosed,
+    SaidUnsatisfiable,
+    SaidUnknown,
+}
+
+// The reading state: N, the highest variable that a number may name, and how far the reading is.
+pub struct Reading {
+    pub highest: usize,
+    pub phase: Phase,
+}
+
+// The answer to one line of solver output.
+pub enum LineAnswer {
+    Next(Reading),
+    Refused(Refusal),
+}
