@@ -77,9 +77,10 @@ actionBytes rest = countBytes + pairBytes * (byte rest 0 + byte rest 1)
 
 unfoldable pub actionIn : List ℕ → Action
 actionIn rest =
-    record
-      { preconditions = pairsAt rest countBytes (byte rest 0);
-        effects = pairsAt rest (countBytes + pairBytes * byte rest 0) (byte rest 1) }
+    record {
+      preconditions = pairsAt rest countBytes (byte rest 0);
+      effects = pairsAt rest (countBytes + pairBytes * byte rest 0) (byte rest 1);
+    }
 
 -- for each action the rest of the body from its own first byte on
 unfoldable pub restsUpTo : (most : ℕ) → List ℕ → List (List ℕ)
@@ -96,11 +97,12 @@ isWhole stretches a = leb (actionBytes (getD stretches a [])) (length (getD stre
 
 unfoldable pub taskOf : List ℕ → Task
 taskOf file =
-    record
-      { sizes = body file 0;
-        start = body file 1;
-        goal = pairsAt (body file 2) 0 (length (body file 2) / pairBytes);
-        actions = map actionIn (rests (body file 3)) }
+    record {
+      sizes = body file 0;
+      start = body file 1;
+      goal = pairsAt (body file 2) 0 (length (body file 2) / pairBytes);
+      actions = map actionIn (rests (body file 3));
+    }
 
 -- refusals 1 to 7
 unfoldable pub fileRules : List ℕ → List Rule

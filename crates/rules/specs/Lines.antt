@@ -92,11 +92,12 @@ wordRules highest given scan w =
 
 unfoldable pub scanWord : (highest : ℕ) (given : List ℕ) → Scan → List ℕ → Scan
 scanWord highest given scan w =
-    record
-      { verdict = judge (wordRules highest given scan w);
-        at = scan .at + length w + 1;
-        closed = scan .closed || eqb (variableOf w) 0;
-        named = cond (eqb (variableOf w) 0) (scan .named) (scan .named ++ (literalOf w ∷ [])) }
+    record {
+      verdict = judge (wordRules highest given scan w);
+      at = scan .at + length w + 1;
+      closed = scan .closed || eqb (variableOf w) 0;
+      named = cond (eqb (variableOf w) 0) (scan .named) (scan .named ++ (literalOf w ∷ []));
+    }
 
 -- an empty piece stands between two spaces in a row
 unfoldable pub scanPiece : (highest : ℕ) (given : List ℕ) → Scan → List ℕ → Scan

@@ -28,9 +28,10 @@ firstReading P = record { highest = N P; phase = NoStatus }
 -- the words needed are 0 in both rows
 unfoldable pub clearedRows : Problem → Rows → Rows
 clearedRows P rows =
-    record
-      { given = overRow (replicate (wordsFor (N P)) 0) (rows .given);
-        isTrue = overRow (replicate (wordsFor (N P)) 0) (rows .isTrue) }
+    record {
+      given = overRow (replicate (wordsFor (N P)) 0) (rows .given);
+      isTrue = overRow (replicate (wordsFor (N P)) 0) (rows .isTrue);
+    }
 
 -- ---- the lines
 

@@ -42,6 +42,7 @@ assignmentOf P schedule =
 -- both rows: all N variables given, exactly the model's true ones true, words behind untouched
 unfoldable pub rowsOf : Problem → List ℕ → Rows → Rows
 rowsOf P schedule rows =
-    record
-      { given = overRow (packed (replicate (N P) true)) (rows .given);
-        isTrue = overRow (packed (assignmentOf P schedule)) (rows .isTrue) }
+    record {
+      given = overRow (packed (replicate (N P) true)) (rows .given);
+      isTrue = overRow (packed (assignmentOf P schedule)) (rows .isTrue);
+    }

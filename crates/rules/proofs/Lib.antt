@@ -1,0 +1,3 @@
+-- What is proved of the rules. Demands is the page to read; the rest is how.
+pub mod Bools
+pub mod Counting
