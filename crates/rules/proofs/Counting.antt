@@ -71,7 +71,7 @@ first-is m p i h t b =
 
 -- the test that there is none
 pub none-at : (m : ℕ) (p : ℕ → Bool) → eqb (first m p) m ≡ true → (i : ℕ) → i < m → p i ≡ false
-none-at m p h i l = first-before m p i (omega (arith, eqb-true _ _ h))
+none-at m p h i l = first-before m p i (omega (arith, eqb-true (first m p) m h))
 
 pub none-test : (m : ℕ) (p : ℕ → Bool) → ((i : ℕ) → i < m → p i ≡ false) → eqb (first m p) m ≡ true
 none-test m p h = eq-eqb _ _ (first-none m p h)
