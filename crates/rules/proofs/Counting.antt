@@ -259,3 +259,47 @@ module _ {X : Type 0} where
       ⊎-elim (λ t. (0, omega arith, t))
       (λ t. let r : (i : ℕ) × (i < length l) × (p (getD l i z) ≡ true) = any-where p l z t in (suc (r .0), omega arith, r .2))
       (or-cases (p x) (any p l) h)
+
+  -- ---- tables, pairs and lists of lists
+
+  pub every-table : (p : X → Bool) (m : ℕ) (f : ℕ → X) → ((i : ℕ) → i < m → p (f i) ≡ true) → every p (table m f) ≡ true
+  unfolding every
+  every-table p m f h = every-forEach p m (λ i. f i ∷ []) (λ i l. and-both (p (f i)) true (h i l) refl)
+
+  pub each-in-table : (p : X → Bool) (m : ℕ) (f : ℕ → X) → every p (table m f) ≡ true → (i : ℕ) → i < m → p (f i) ≡ true
+  unfolding every
+  each-in-table p m f h i l = and-left (p (f i)) true (each-of p m (λ i. f i ∷ []) h i l)
+
+  pub every-pair : (p : X → Bool) (m : ℕ) (f : ℕ → ℕ → List X)
+      → ((i j : ℕ) → i < j → j < m → every p (f i j) ≡ true) → every p (forPairs m f) ≡ true
+  unfolding forPairs
+  every-pair p m f h =
+      every-forEach p m (λ i. forEach (m - suc i) (λ j. f i (suc i + j))) (λ i l.
+      every-forEach p (m - suc i) (λ j. f i (suc i + j)) (λ j b. h i (suc i + j) (omega arith) (omega arith)))
+
+  pub each-pair : (p : X → Bool) (m : ℕ) (f : ℕ → ℕ → List X) → every p (forPairs m f) ≡ true
+      → (i j : ℕ) → i < j → j < m → every p (f i j) ≡ true
+  unfolding forPairs
+  each-pair p m f h i j l b =
+      let e : j ≡ suc i + (j - suc i) = omega arith in
+      ap (λ t. every p (f i t)) e
+      ∙ each-of p (m - suc i) (λ j. f i (suc i + j))
+      (each-of p m (λ i. forEach (m - suc i) (λ j. f i (suc i + j))) h i (omega arith)) (j - suc i) (omega arith)
+
+  pub every-when : (p : X → Bool) (b : Bool) (l : List X) → (b ≡ true → every p l ≡ true) → every p (when b l) ≡ true
+  unfolding every
+  every-when p true l h = h refl
+  every-when p false l h = refl
+
+  pub each-when : (p : X → Bool) (b : Bool) (l : List X) → every p (when b l) ≡ true → b ≡ true → every p l ≡ true
+  each-when p b l h t = rw t at h
+
+  pub each-joined : (p : X → Bool) (ls : List (List X)) → every p (joined ls) ≡ true → (i : ℕ) → i < length ls → every p (getD ls i []) ≡ true
+  unfolding joined
+  each-joined p [] h i l = absurd (omega arith)
+  each-joined p (l ∷ ls) h zero b = every-left p l (joined ls) h
+  each-joined p (l ∷ ls) h (suc i) b = each-joined p ls (every-right p l (joined ls) h) i (omega arith)
+
+  pub every-joined : (p : X → Bool) (l : List X) (ls : List (List X)) → every p l ≡ true → every p (joined ls) ≡ true → every p (joined (l ∷ ls)) ≡ true
+  unfolding joined
+  every-joined p l ls h k = every-append p l (joined ls) h k

@@ -5,3 +5,4 @@ pub mod Judging
 pub mod Valid
 pub mod Numbering
 pub mod LaidOut
+pub mod Clauses

@@ -26,7 +26,7 @@ module _ {X : Type 0} where
   table m f = forEach m (λ i. f i ∷ [])
 
   -- f i j for each i < j below m, i rising, and j rising for each i
-  abbrev pub forPairs : ℕ → (ℕ → ℕ → List X) → List X
+  unfoldable pub forPairs : ℕ → (ℕ → ℕ → List X) → List X
   forPairs m f = forEach m (λ i. forEach (m - suc i) (λ j. f i (suc i + j)))
 
   abbrev pub when : Bool → List X → List X

@@ -1,0 +1,167 @@
+-- What it says of an assignment that each clause of a family is true, family by family, in both directions.
+-- Assumes nothing.
+use mathlib.Core.Path.{_≡_, refl, sym, ap, _∙_}
+use mathlib.Core.Logic.{_⊎_, inl, inr, ⊎-elim}
+use mathlib.Core.Bool.{Bool, true, false, not, _||_}
+use mathlib.Core.List.{List, [], _∷_}
+use Prim.Native.Nat.{ℕ, suc, _+_, _-_, _≤_, _<_}
+use native.Mathlib.Omega.{arith}
+use lib.Dec.{lit<}
+use lib.ListN.{length, getD}
+use Rattle.rules.specs.Counting.{forEach, table, forPairs, when, every, any, joined}
+use Rattle.rules.specs.Task.{Task, n, d, A, startValue, pair, action}
+use Rattle.rules.specs.Problem.{Problem}
+use Rattle.rules.specs.Numbering.{valueNumber, actionNumber}
+use Rattle.rules.specs.Families.{Literal, plus, minus, Clause, pairNumber, gives, supporters, family1, family2, family3, family4, family5, family6, family7, family8, families, formula}
+use Rattle.rules.specs.Truth.{Model, literalTrue, clauseTrue, satisfies}
+use Rattle.rules.proofs.Bools.{either, clash, and-left, and-both, or-cases, or-left, or-right, not-true, not-false}
+use Rattle.rules.proofs.Counting.{every-forEach, each-of, every-table, each-in-table, every-pair, each-pair, every-when, each-when, each-joined, every-joined, any-forEach, one-of, any-at, any-where}
+
+-- ---- clauses under an assignment that gives every variable
+
+abbrev pub complete : (ℕ → Bool) → Model
+complete τ = record { given = λ v. true; isTrue = τ }
+
+module _ (τ : ℕ → Bool) where
+  pub one-true : (v : ℕ) → clauseTrue (complete τ) (plus v ∷ []) ≡ true → τ v ≡ true
+  unfolding clauseTrue any literalTrue
+  one-true v h = ⊎-elim (λ t. t) (λ t. clash t refl) (or-cases (τ v) false h)
+
+  pub true-one : (v : ℕ) → τ v ≡ true → clauseTrue (complete τ) (plus v ∷ []) ≡ true
+  unfolding clauseTrue any literalTrue
+  true-one v h = or-left (τ v) false h
+
+  -- a clause that begins with a negated variable says what follows where that variable is true
+  pub implied : (v : ℕ) (c : Clause) → clauseTrue (complete τ) (minus v ∷ c) ≡ true → τ v ≡ true → clauseTrue (complete τ) c ≡ true
+  unfolding clauseTrue any literalTrue
+  implied v c h t = ⊎-elim (λ f. clash t (not-true (τ v) f)) (λ r. r) (or-cases (not (τ v)) (any (literalTrue (complete τ)) c) h)
+
+  pub implies : (v : ℕ) (c : Clause) → (τ v ≡ true → clauseTrue (complete τ) c ≡ true) → clauseTrue (complete τ) (minus v ∷ c) ≡ true
+  unfolding clauseTrue any literalTrue
+  implies v c h =
+      ⊎-elim (λ t. or-right (not (τ v)) (any (literalTrue (complete τ)) c) (h t))
+      (λ t. or-left (not (τ v)) (any (literalTrue (complete τ)) c) (ap not t))
+      (either (τ v))
+
+  -- the empty clause is false
+  pub empty-false : {X : Type 0} → clauseTrue (complete τ) [] ≡ true → X
+  unfolding clauseTrue any
+  empty-false h = clash h refl
+
+  -- a clause of positive literals is true by one of them
+  pub among : (m : ℕ) (f : ℕ → ℕ) → clauseTrue (complete τ) (table m (λ i. plus (f i))) ≡ true → (i : ℕ) × (i < m) × (τ (f i) ≡ true)
+  unfolding clauseTrue literalTrue any
+  among m f h =
+      let r = one-of (literalTrue (complete τ)) m (λ i. plus (f i) ∷ []) h in
+      (r .0, r .1, ⊎-elim (λ t. t) (λ t. clash t refl) (or-cases (τ (f (r .0))) false (r .2)))
+
+  pub true-among : (m : ℕ) (f : ℕ → ℕ) (i : ℕ) → i < m → τ (f i) ≡ true → clauseTrue (complete τ) (table m (λ i. plus (f i))) ≡ true
+  unfolding clauseTrue literalTrue any
+  true-among m f i l h = any-forEach (literalTrue (complete τ)) m (λ i. plus (f i) ∷ []) i l (or-left (τ (f i)) false h)
+
+  -- a list of one clause
+  pub alone : (c : Clause) → every (clauseTrue (complete τ)) (c ∷ []) ≡ true → clauseTrue (complete τ) c ≡ true
+  unfolding every
+  alone c h = and-left (clauseTrue (complete τ) c) true h
+
+  pub by-itself : (c : Clause) → clauseTrue (complete τ) c ≡ true → every (clauseTrue (complete τ)) (c ∷ []) ≡ true
+  unfolding every
+  by-itself c h = and-both (clauseTrue (complete τ) c) true h refl
+
+  pub nothing : every (clauseTrue (complete τ)) (joined []) ≡ true
+  unfolding every joined
+  nothing = refl
+
+-- ---- a fact a family
+
+module _ (P : Problem) where
+  pub record Facts (τ : ℕ → Bool) : Type 0 where
+    pub starts : (x : ℕ) → x < n (P .task) → τ (valueNumber P 0 x (startValue (P .task) x)) ≡ true
+    pub reaches : (i : ℕ) → i < length (P .task .goal) → τ (pairNumber P (P .horizon) (pair (P .task .goal) i)) ≡ true
+    pub some-value : (s x : ℕ) → s < suc (P .horizon) → x < n (P .task) → (v : ℕ) × (v < d (P .task) x) × (τ (valueNumber P s x v) ≡ true)
+    pub one-value : (s x v w : ℕ) → s < suc (P .horizon) → x < n (P .task) → v < w → w < d (P .task) x
+        → τ (valueNumber P s x v) ≡ true → τ (valueNumber P s x w) ≡ true → ⊥
+    pub needs : (s a i : ℕ) → s < P .horizon → a < A (P .task) → i < length (action (P .task) a .preconditions)
+        → τ (actionNumber P s a) ≡ true → τ (pairNumber P s (pair (action (P .task) a .preconditions) i)) ≡ true
+    pub causes : (s a i : ℕ) → s < P .horizon → a < A (P .task) → i < length (action (P .task) a .effects)
+        → τ (actionNumber P s a) ≡ true → τ (pairNumber P (suc s) (pair (action (P .task) a .effects) i)) ≡ true
+    pub stays : (s x v : ℕ) → s < P .horizon → x < n (P .task) → v < d (P .task) x → τ (valueNumber P (suc s) x v) ≡ true
+        → (τ (valueNumber P s x v) ≡ true) ⊎ ((a : ℕ) × (a < A (P .task)) × (gives P a x v ≡ true) × (τ (actionNumber P s a) ≡ true))
+    pub excluded : (s a b : ℕ) → s < P .horizon → a < b → b < A (P .task) → P .excludes a b ≡ true
+        → τ (actionNumber P s a) ≡ true → τ (actionNumber P s b) ≡ true → ⊥
+
+  module _ (τ : ℕ → Bool) where
+    abbrev isTrue : Clause → Bool
+    isTrue = clauseTrue (complete τ)
+
+    supported : (s x v : ℕ) → clauseTrue (complete τ) (plus (valueNumber P s x v) ∷ supporters P s x v) ≡ true
+        → (τ (valueNumber P s x v) ≡ true) ⊎ ((a : ℕ) × (a < A (P .task)) × (gives P a x v ≡ true) × (τ (actionNumber P s a) ≡ true))
+    unfolding clauseTrue any literalTrue supporters
+    supported s x v h =
+        ⊎-elim (λ t. inl t)
+        (λ t.
+        let r = one-of (literalTrue (complete τ)) (A (P .task)) (λ a. when (gives P a x v) (plus (actionNumber P s a) ∷ [])) t in
+        let q = supporter (gives P (r .0) x v) (actionNumber P s (r .0)) (r .2) in
+        inr (r .0, r .1, q .0, q .1))
+        (or-cases (τ (valueNumber P s x v)) _ h)
+      where
+        supporter : (g : Bool) (v : ℕ) → any (literalTrue (complete τ)) (when g (plus v ∷ [])) ≡ true → (g ≡ true) × (τ v ≡ true)
+        supporter true v h = (refl, ⊎-elim (λ t. t) (λ t. clash t refl) (or-cases (τ v) false h))
+        supporter false v h = clash h refl
+
+    support : (s x v : ℕ)
+        → (τ (valueNumber P s x v) ≡ true) ⊎ ((a : ℕ) × (a < A (P .task)) × (gives P a x v ≡ true) × (τ (actionNumber P s a) ≡ true))
+        → clauseTrue (complete τ) (plus (valueNumber P s x v) ∷ supporters P s x v) ≡ true
+    unfolding clauseTrue any literalTrue supporters
+    support s x v (inl t) = or-left _ _ t
+    support s x v (inr r) =
+        or-right (τ (valueNumber P s x v)) _
+        (any-forEach (literalTrue (complete τ)) (A (P .task)) (λ a. when (gives P a x v) (plus (actionNumber P s a) ∷ [])) (r .0) (r .1)
+        (rw (r .2) (or-left _ _ (r .3))))
+
+    pub facts : satisfies (complete τ) (formula P) ≡ true → Facts τ
+    unfolding satisfies formula families family1 family2 family3 family4 family5 family6 family7 family8
+    facts h =
+        let family : (i : ℕ) → i < 8 → every isTrue (getD (families P) i []) ≡ true = each-joined isTrue (families P) h in
+        record {
+          starts = λ x l. one-true τ _ (each-in-table isTrue _ _ (family 0 (lit< tt)) x l);
+          reaches = λ i l. one-true τ _ (each-in-table isTrue _ _ (family 1 (lit< tt)) i l);
+          some-value = λ s x hs hx.
+              among τ _ _ (each-in-table isTrue _ _ (each-of isTrue _ _ (family 2 (lit< tt)) s hs) x hx);
+          one-value = λ s x v w hs hx l hw t u.
+              empty-false τ (implied τ _ _ (implied τ _ _ (alone τ _ (each-pair isTrue _ _
+              (each-of isTrue _ _ (each-of isTrue _ _ (family 3 (lit< tt)) s hs) x hx) v w l hw)) t) u);
+          needs = λ s a i hs ha hi t.
+              one-true τ _ (implied τ _ _ (each-in-table isTrue _ _ (each-of isTrue _ _ (each-of isTrue _ _ (family 4 (lit< tt)) s hs) a ha) i hi) t);
+          causes = λ s a i hs ha hi t.
+              one-true τ _ (implied τ _ _ (each-in-table isTrue _ _ (each-of isTrue _ _ (each-of isTrue _ _ (family 5 (lit< tt)) s hs) a ha) i hi) t);
+          stays = λ s x v hs hx hv t.
+              supported s x v (implied τ _ _ (each-in-table isTrue _ _ (each-of isTrue _ _ (each-of isTrue _ _ (family 6 (lit< tt)) s hs) x hx) v hv) t);
+          excluded = λ s a b hs l hb e t u.
+              empty-false τ (implied τ _ _ (implied τ _ _ (alone τ _ (each-when isTrue _ _
+              (each-pair isTrue _ _ (each-of isTrue _ _ (family 7 (lit< tt)) s hs) a b l hb) e)) t) u);
+        }
+
+    pub satisfied : Facts τ → satisfies (complete τ) (formula P) ≡ true
+    unfolding satisfies formula families family1 family2 family3 family4 family5 family6 family7 family8
+    satisfied f =
+        every-joined isTrue (family1 P) _ (every-table isTrue _ _ (λ x l. true-one τ _ (f .starts x l)))
+        (every-joined isTrue (family2 P) _ (every-table isTrue _ _ (λ i l. true-one τ _ (f .reaches i l)))
+        (every-joined isTrue (family3 P) _
+        (every-forEach isTrue _ _ (λ s hs. every-table isTrue _ _ (λ x hx. let r = f .some-value s x hs hx in true-among τ _ _ (r .0) (r .1) (r .2))))
+        (every-joined isTrue (family4 P) _
+        (every-forEach isTrue _ _ (λ s hs. every-forEach isTrue _ _ (λ x hx. every-pair isTrue _ _ (λ v w l hw.
+        by-itself τ _ (implies τ _ _ (λ t. implies τ _ _ (λ u. absurd (f .one-value s x v w hs hx l hw t u))))))))
+        (every-joined isTrue (family5 P) _
+        (every-forEach isTrue _ _ (λ s hs. every-forEach isTrue _ _ (λ a ha. every-table isTrue _ _ (λ i hi.
+        implies τ _ _ (λ t. true-one τ _ (f .needs s a i hs ha hi t))))))
+        (every-joined isTrue (family6 P) _
+        (every-forEach isTrue _ _ (λ s hs. every-forEach isTrue _ _ (λ a ha. every-table isTrue _ _ (λ i hi.
+        implies τ _ _ (λ t. true-one τ _ (f .causes s a i hs ha hi t))))))
+        (every-joined isTrue (family7 P) _
+        (every-forEach isTrue _ _ (λ s hs. every-forEach isTrue _ _ (λ x hx. every-table isTrue _ _ (λ v hv.
+        implies τ _ _ (λ t. support s x v (f .stays s x v hs hx hv t))))))
+        (every-joined isTrue (family8 P) _
+        (every-forEach isTrue _ _ (λ s hs. every-pair isTrue _ _ (λ a b l hb. every-when isTrue _ _ (λ e.
+        by-itself τ _ (implies τ _ _ (λ t. implies τ _ _ (λ u. absurd (f .excluded s a b hs l hb e t u))))))))
+        (nothing τ))))))))
