@@ -6,3 +6,4 @@ pub mod Valid
 pub mod Numbering
 pub mod LaidOut
 pub mod Clauses
+pub mod Moves
