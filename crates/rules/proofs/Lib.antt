@@ -7,3 +7,4 @@ pub mod Numbering
 pub mod LaidOut
 pub mod Clauses
 pub mod Moves
+pub mod Pairing
