@@ -6,7 +6,7 @@ use mathlib.Core.Bool.{Bool, true, false, cond, not, _&&_, _||_}
 use mathlib.Core.List.{List, [], _∷_, _++_}
 use Prim.Native.Nat.{ℕ, zero, suc, _+_, _-_, _*_, _≤_, _<_}
 use native.Mathlib.Omega.{arith}
-use native.Mathlib.Nat.{suc-mul, zero-mul}
+use native.Mathlib.Nat.{suc-mul, zero-mul, mul-add}
 use borrow.Author.Tests.{ltb-true, ltb-false, lt-ltb, le-ltb, eqb-true, eq-eqb}
 use lib.Dec.{ltb, eqb}
 use lib.ListN.{length, getD, length-append, List·getD-append}
@@ -98,6 +98,14 @@ pub sumTo-const : (m c : ℕ) → sumTo m (λ i. c) ≡ m * c
 unfolding sumTo
 sumTo-const zero c = omega (arith, zero-mul c)
 sumTo-const (suc m) c = omega (arith, sumTo-const m c, suc-mul m c)
+
+pub sumTo-most : (m c : ℕ) (w : ℕ → ℕ) → ((i : ℕ) → i < m → w i ≤ c) → sumTo m w ≤ m * c
+sumTo-most m c w h = omega (arith, sumTo-le m w (λ i. c) h, sumTo-const m c)
+
+pub sumTo-scale : (m c : ℕ) (w : ℕ → ℕ) → sumTo m (λ i. c * w i) ≡ c * sumTo m w
+unfolding sumTo
+sumTo-scale zero c w = omega arith
+sumTo-scale (suc m) c w = omega (arith, sumTo-scale m c w, mul-add c (sumTo m w) (w m))
 
 -- a part of a sum, with what is added at its end, is within the sum
 pub sumTo-part : (m : ℕ) (w : ℕ → ℕ) (i : ℕ) → i < m → sumTo i w + w i ≤ sumTo m w
@@ -208,6 +216,21 @@ module _ {X : Type 0} where
   unfolding every
   every-by p [] z h = refl
   every-by p (x ∷ l) z h = and-both _ _ (h 0 (omega arith)) (every-by p l z (λ i b. h (suc i) (omega arith)))
+
+  pub every-table : (p : X → Bool) (m : ℕ) (f : ℕ → X) → ((i : ℕ) → i < m → p (f i) ≡ true) → every p (table m f) ≡ true
+  unfolding every
+  every-table p m f h = every-forEach p m (λ i. f i ∷ []) (λ i l. and-both _ _ (h i l) refl)
+
+  pub every-when : (p : X → Bool) (b : Bool) (l : List X) → every p l ≡ true → every p (when b l) ≡ true
+  unfolding every
+  every-when p true l h = h
+  every-when p false l h = refl
+
+  pub every-joined : (p : X → Bool) (ls : List (List X)) → every (every p) ls ≡ true → every p (joined ls) ≡ true
+  unfolding every joined
+  every-joined p [] h = refl
+  every-joined p (l ∷ ls) h =
+      every-append p l (joined ls) (and-left (every p l) (every (every p) ls) h) (every-joined p ls (and-right (every p l) (every (every p) ls) h))
 
   -- ---- what holds of any element
 

@@ -1,17 +1,17 @@
 -- The count table: how many clauses each family has, and that C is their sum.
 -- Assumes nothing.
-use mathlib.Core.Path.{_≡_, refl, sym, ap, _∙_}
+use mathlib.Core.Path.{_≡_, refl, ap, _∙_}
 use mathlib.Core.Bool.{Bool, true, false}
-use mathlib.Core.List.{List, [], _∷_, _++_, map}
+use mathlib.Core.List.{List, [], _∷_, map}
 use Prim.Native.Nat.{ℕ, zero, suc, _+_, _-_, _*_, _/_, _≤_, _<_}
 use native.Mathlib.Omega.{arith}
-use native.Mathlib.Nat.{mul-one, mul-sub}
+use native.Mathlib.Nat.{mul-sub}
 use lib.ListN.{length, length-append}
-use Rattle.rules.specs.Counting.{sumTo, forEach, table, forPairs, when, joined}
+use Rattle.rules.specs.Counting.{sumTo, forEach, when, joined}
 use Rattle.rules.specs.Task.{Task, n, d, S, A, action}
 use Rattle.rules.specs.Problem.{Problem, problem}
 use Rattle.rules.specs.Families.{family1, family2, family3, family4, family5, family6, family7, family8, families, formula, C}
-use Rattle.rules.proofs.Counting.{sumTo-ext, sumTo-const, length-forEach, length-table}
+use Rattle.rules.proofs.Counting.{sumTo-ext, sumTo-const, sumTo-most, length-forEach, length-table}
 
 -- ---- the table
 
@@ -27,7 +27,7 @@ unfoldable pub sum : List ℕ → ℕ
 sum [] = 0
 sum (c ∷ cs) = c + sum cs
 
--- the counts of the eight families where every two actions exclude each other
+-- the counts of the eight families; the last is that of rule 1, where every two actions exclude each other
 unfoldable pub countTable : Problem → List ℕ
 countTable P =
     n (P .task)
@@ -47,7 +47,7 @@ unfolding sumTo
 pairs-doubled m zero h = omega arith
 pairs-doubled m (suc i) h = omega (arith, pairs-doubled m i (omega arith))
 
--- a first number j has the m - suc j numbers above it
+-- where the pairs with the first number i start: each first number j before it has the m - suc j numbers above j
 pub pairs-before : (m i : ℕ) → i ≤ m → sumTo i (λ j. m - suc j) ≡ pairsBefore m i
 pairs-before m i h =
     let e : 2 * m - i - 1 ≡ 2 * m - suc i = omega arith in
@@ -59,12 +59,15 @@ pairs-all m = let e : 2 * m - m - 1 ≡ m - 1 = omega arith in rw e
 -- ---- lengths
 
 module _ {X : Type 0} where
-  -- the length of a nest: from the lengths inside it
+  -- the length of a nest by the lengths inside it
   pub length-each : (m : ℕ) (f : ℕ → List X) (w : ℕ → ℕ) → ((i : ℕ) → length (f i) ≡ w i) → length (forEach m f) ≡ sumTo m w
   length-each m f w h = length-forEach m f ∙ sumTo-ext m _ w (λ i l. h i)
 
   pub length-times : (m : ℕ) (f : ℕ → List X) (c : ℕ) → ((i : ℕ) → length (f i) ≡ c) → length (forEach m f) ≡ m * c
   length-times m f c h = length-each m f (λ i. c) h ∙ sumTo-const m c
+
+  pub length-most : (m c : ℕ) (f : ℕ → List X) → ((i : ℕ) → i < m → length (f i) ≤ c) → length (forEach m f) ≤ m * c
+  length-most m c f h = omega (arith, length-forEach m f, sumTo-most m c (λ i. length (f i)) h)
 
   -- forPairs, where it makes one element of each pair: row i has the m - suc i numbers above i
   pub length-pairs : (m : ℕ) (row : ℕ → List X) → ((i : ℕ) → length (row i) ≡ m - suc i) → length (forEach m row) ≡ pairsBelow m
@@ -110,7 +113,7 @@ module _ (P : Problem) where
   unfolding family7
   count7 = length-times _ _ _ (λ s. length-each _ _ _ (λ x. length-table _ _))
 
--- every two actions exclude each other
+-- rule 1: every two actions exclude each other
 pub count8 : (T : Task) (k : ℕ) → length (family8 (problem T k)) ≡ k * pairsBelow (A T)
 unfolding family8
 count8 T k = length-times _ _ _ (λ s. length-pairs _ _ (λ a. length-table _ _))
@@ -118,7 +121,8 @@ count8 T k = length-times _ _ _ (λ s. length-pairs _ _ (λ a. length-table _ _)
 pub counts : (T : Task) (k : ℕ) → map length (families (problem T k)) ≡ countTable (problem T k)
 unfolding families countTable
 counts T k =
-    rw (count1 (problem T k), count2 (problem T k), count3 (problem T k), count4 (problem T k), count5 (problem T k), count6 (problem T k), count7 (problem T k), count8 T k)
+    let P : Problem = problem T k in
+    rw (count1 P, count2 P, count3 P, count4 P, count5 P, count6 P, count7 P, count8 T k)
 
 pub C-is : (T : Task) (k : ℕ) → C (problem T k) ≡ sum (countTable (problem T k))
 unfolding C formula

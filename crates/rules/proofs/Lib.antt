@@ -4,3 +4,4 @@ pub mod Counting
 pub mod Judging
 pub mod Valid
 pub mod Counts
+pub mod Bounds
