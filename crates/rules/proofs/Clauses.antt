@@ -15,7 +15,7 @@ use Rattle.rules.specs.Numbering.{valueNumber, actionNumber}
 use Rattle.rules.specs.Families.{Literal, plus, minus, Clause, pairNumber, gives, supporters, family1, family2, family3, family4, family5, family6, family7, family8, families, formula}
 use Rattle.rules.specs.Truth.{Model, literalTrue, clauseTrue, satisfies}
 use Rattle.rules.proofs.Bools.{either, clash, and-left, and-both, or-cases, or-left, or-right, not-true, not-false}
-use Rattle.rules.proofs.Counting.{every-forEach, each-of, every-table, each-in-table, every-pair, each-pair, every-when, each-when, each-joined, every-joined, any-forEach, one-of, any-at, any-where}
+use Rattle.rules.proofs.Counting.{every-one, the-one, every-forEach, each-of, every-table, each-in-table, every-pair, each-pair, every-when, each-when, each-joined, every-joined, any-forEach, one-of, any-at, any-where}
 
 -- ---- clauses under an assignment that gives every variable
 
@@ -58,19 +58,6 @@ module _ (τ : ℕ → Bool) where
   pub true-among : (m : ℕ) (f : ℕ → ℕ) (i : ℕ) → i < m → τ (f i) ≡ true → clauseTrue (complete τ) (table m (λ i. plus (f i))) ≡ true
   unfolding clauseTrue literalTrue any
   true-among m f i l h = any-forEach (literalTrue (complete τ)) m (λ i. plus (f i) ∷ []) i l (or-left (τ (f i)) false h)
-
-  -- a list of one clause
-  pub alone : (c : Clause) → every (clauseTrue (complete τ)) (c ∷ []) ≡ true → clauseTrue (complete τ) c ≡ true
-  unfolding every
-  alone c h = and-left (clauseTrue (complete τ) c) true h
-
-  pub by-itself : (c : Clause) → clauseTrue (complete τ) c ≡ true → every (clauseTrue (complete τ)) (c ∷ []) ≡ true
-  unfolding every
-  by-itself c h = and-both (clauseTrue (complete τ) c) true h refl
-
-  pub nothing : every (clauseTrue (complete τ)) (joined []) ≡ true
-  unfolding every joined
-  nothing = refl
 
 -- ---- a fact a family
 
@@ -129,7 +116,7 @@ module _ (P : Problem) where
           some-value = λ s x hs hx.
               among τ _ _ (each-in-table isTrue _ _ (each-of isTrue _ _ (family 2 (lit< tt)) s hs) x hx);
           one-value = λ s x v w hs hx l hw t u.
-              empty-false τ (implied τ _ _ (implied τ _ _ (alone τ _ (each-pair isTrue _ _
+              empty-false τ (implied τ _ _ (implied τ _ _ (the-one isTrue _ (each-pair isTrue _ _
               (each-of isTrue _ _ (each-of isTrue _ _ (family 3 (lit< tt)) s hs) x hx) v w l hw)) t) u);
           needs = λ s a i hs ha hi t.
               one-true τ _ (implied τ _ _ (each-in-table isTrue _ _ (each-of isTrue _ _ (each-of isTrue _ _ (family 4 (lit< tt)) s hs) a ha) i hi) t);
@@ -138,30 +125,31 @@ module _ (P : Problem) where
           stays = λ s x v hs hx hv t.
               supported s x v (implied τ _ _ (each-in-table isTrue _ _ (each-of isTrue _ _ (each-of isTrue _ _ (family 6 (lit< tt)) s hs) x hx) v hv) t);
           excluded = λ s a b hs l hb e t u.
-              empty-false τ (implied τ _ _ (implied τ _ _ (alone τ _ (each-when isTrue _ _
+              empty-false τ (implied τ _ _ (implied τ _ _ (the-one isTrue _ (each-when isTrue _ _
               (each-pair isTrue _ _ (each-of isTrue _ _ (family 7 (lit< tt)) s hs) a b l hb) e)) t) u);
         }
 
     pub satisfied : Facts τ → satisfies (complete τ) (formula P) ≡ true
-    unfolding satisfies formula families family1 family2 family3 family4 family5 family6 family7 family8
+    unfolding every satisfies formula families family1 family2 family3 family4 family5 family6 family7 family8
     satisfied f =
-        every-joined isTrue (family1 P) _ (every-table isTrue _ _ (λ x l. true-one τ _ (f .starts x l)))
-        (every-joined isTrue (family2 P) _ (every-table isTrue _ _ (λ i l. true-one τ _ (f .reaches i l)))
-        (every-joined isTrue (family3 P) _
+        every-joined isTrue (families P)
+        (and-both _ _ (every-table isTrue _ _ (λ x l. true-one τ _ (f .starts x l)))
+        (and-both _ _ (every-table isTrue _ _ (λ i l. true-one τ _ (f .reaches i l)))
+        (and-both _ _
         (every-forEach isTrue _ _ (λ s hs. every-table isTrue _ _ (λ x hx. let r = f .some-value s x hs hx in true-among τ _ _ (r .0) (r .1) (r .2))))
-        (every-joined isTrue (family4 P) _
+        (and-both _ _
         (every-forEach isTrue _ _ (λ s hs. every-forEach isTrue _ _ (λ x hx. every-pair isTrue _ _ (λ v w l hw.
-        by-itself τ _ (implies τ _ _ (λ t. implies τ _ _ (λ u. absurd (f .one-value s x v w hs hx l hw t u))))))))
-        (every-joined isTrue (family5 P) _
+        every-one isTrue _ (implies τ _ _ (λ t. implies τ _ _ (λ u. absurd (f .one-value s x v w hs hx l hw t u))))))))
+        (and-both _ _
         (every-forEach isTrue _ _ (λ s hs. every-forEach isTrue _ _ (λ a ha. every-table isTrue _ _ (λ i hi.
         implies τ _ _ (λ t. true-one τ _ (f .needs s a i hs ha hi t))))))
-        (every-joined isTrue (family6 P) _
+        (and-both _ _
         (every-forEach isTrue _ _ (λ s hs. every-forEach isTrue _ _ (λ a ha. every-table isTrue _ _ (λ i hi.
         implies τ _ _ (λ t. true-one τ _ (f .causes s a i hs ha hi t))))))
-        (every-joined isTrue (family7 P) _
+        (and-both _ _
         (every-forEach isTrue _ _ (λ s hs. every-forEach isTrue _ _ (λ x hx. every-table isTrue _ _ (λ v hv.
         implies τ _ _ (λ t. support s x v (f .stays s x v hs hx hv t))))))
-        (every-joined isTrue (family8 P) _
+        (and-both _ _
         (every-forEach isTrue _ _ (λ s hs. every-pair isTrue _ _ (λ a b l hb. every-when isTrue _ _ (λ e.
-        by-itself τ _ (implies τ _ _ (λ t. implies τ _ _ (λ u. absurd (f .excluded s a b hs l hb e t u))))))))
-        (nothing τ))))))))
+        every-one isTrue _ (implies τ _ _ (λ t. implies τ _ _ (λ u. absurd (f .excluded s a b hs l hb e t u))))))))
+        refl))))))))

@@ -6,7 +6,7 @@ use mathlib.Core.Bool.{Bool, true, false, cond, not, _&&_, _||_}
 use mathlib.Core.List.{List, [], _∷_, _++_}
 use Prim.Native.Nat.{ℕ, zero, suc, _+_, _-_, _*_, _≤_, _<_}
 use native.Mathlib.Omega.{arith}
-use native.Mathlib.Nat.{suc-mul, zero-mul}
+use native.Mathlib.Nat.{suc-mul, zero-mul, mul-add}
 use borrow.Author.Tests.{ltb-true, ltb-false, lt-ltb, le-ltb, eqb-true, eq-eqb}
 use lib.Dec.{ltb, eqb}
 use lib.ListN.{length, getD, length-append, List·getD-append}
@@ -98,6 +98,14 @@ pub sumTo-const : (m c : ℕ) → sumTo m (λ i. c) ≡ m * c
 unfolding sumTo
 sumTo-const zero c = omega (arith, zero-mul c)
 sumTo-const (suc m) c = omega (arith, sumTo-const m c, suc-mul m c)
+
+pub sumTo-most : (m c : ℕ) (w : ℕ → ℕ) → ((i : ℕ) → i < m → w i ≤ c) → sumTo m w ≤ m * c
+sumTo-most m c w h = omega (arith, sumTo-le m w (λ i. c) h, sumTo-const m c)
+
+pub sumTo-scale : (m c : ℕ) (w : ℕ → ℕ) → sumTo m (λ i. c * w i) ≡ c * sumTo m w
+unfolding sumTo
+sumTo-scale zero c w = omega arith
+sumTo-scale (suc m) c w = omega (arith, sumTo-scale m c w, mul-add c (sumTo m w) (w m))
 
 -- a part of a sum, with what is added at its end, is within the sum
 pub sumTo-part : (m : ℕ) (w : ℕ → ℕ) (i : ℕ) → i < m → sumTo i w + w i ≤ sumTo m w
@@ -262,13 +270,19 @@ module _ {X : Type 0} where
 
   -- ---- tables, pairs and lists of lists
 
-  pub every-table : (p : X → Bool) (m : ℕ) (f : ℕ → X) → ((i : ℕ) → i < m → p (f i) ≡ true) → every p (table m f) ≡ true
+  pub every-one : (p : X → Bool) (x : X) → p x ≡ true → every p (x ∷ []) ≡ true
   unfolding every
-  every-table p m f h = every-forEach p m (λ i. f i ∷ []) (λ i l. and-both (p (f i)) true (h i l) refl)
+  every-one p x h = and-both (p x) true h refl
+
+  pub the-one : (p : X → Bool) (x : X) → every p (x ∷ []) ≡ true → p x ≡ true
+  unfolding every
+  the-one p x h = and-left (p x) true h
+
+  pub every-table : (p : X → Bool) (m : ℕ) (f : ℕ → X) → ((i : ℕ) → i < m → p (f i) ≡ true) → every p (table m f) ≡ true
+  every-table p m f h = every-forEach p m (λ i. f i ∷ []) (λ i l. every-one p (f i) (h i l))
 
   pub each-in-table : (p : X → Bool) (m : ℕ) (f : ℕ → X) → every p (table m f) ≡ true → (i : ℕ) → i < m → p (f i) ≡ true
-  unfolding every
-  each-in-table p m f h i l = and-left (p (f i)) true (each-of p m (λ i. f i ∷ []) h i l)
+  each-in-table p m f h i l = the-one p (f i) (each-of p m (λ i. f i ∷ []) h i l)
 
   pub every-pair : (p : X → Bool) (m : ℕ) (f : ℕ → ℕ → List X)
       → ((i j : ℕ) → i < j → j < m → every p (f i j) ≡ true) → every p (forPairs m f) ≡ true
@@ -300,6 +314,8 @@ module _ {X : Type 0} where
   each-joined p (l ∷ ls) h zero b = every-left p l (joined ls) h
   each-joined p (l ∷ ls) h (suc i) b = each-joined p ls (every-right p l (joined ls) h) i (omega arith)
 
-  pub every-joined : (p : X → Bool) (l : List X) (ls : List (List X)) → every p l ≡ true → every p (joined ls) ≡ true → every p (joined (l ∷ ls)) ≡ true
-  unfolding joined
-  every-joined p l ls h k = every-append p l (joined ls) h k
+  pub every-joined : (p : X → Bool) (ls : List (List X)) → every (every p) ls ≡ true → every p (joined ls) ≡ true
+  unfolding every joined
+  every-joined p [] h = refl
+  every-joined p (l ∷ ls) h =
+      every-append p l (joined ls) (and-left (every p l) (every (every p) ls) h) (every-joined p ls (and-right (every p l) (every (every p) ls) h))

@@ -4,6 +4,8 @@ pub mod Counting
 pub mod Judging
 pub mod Valid
 pub mod Numbering
+pub mod Counts
+pub mod Bounds
 pub mod LaidOut
 pub mod Clauses
 pub mod Moves

@@ -7,6 +7,7 @@ pub mod File
 pub mod Problem
 pub mod Numbering
 pub mod Families
+pub mod Counts
 pub mod Text
 pub mod Rows
 pub mod Truth

@@ -53,3 +53,13 @@ countBytes = 2
 -- the longest file: contents, sizes, start values, goal pairs and actions at their limits
 abbrev pub maxFile : ℕ
 maxFile = contentsBytes + maxVariables + maxVariables + pairBytes * maxGoals + maxActions * (countBytes + pairBytes * (maxPairs + maxPairs))
+
+-- what follows from these, and is proved: the most formula variables, clauses, and literals of a clause
+abbrev pub maxN : ℕ
+maxN = 99328
+
+abbrev pub maxC : ℕ
+maxC = 11065120
+
+abbrev pub maxLiterals : ℕ
+maxLiterals = 514
