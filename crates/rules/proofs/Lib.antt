@@ -2,6 +2,7 @@
 pub mod Bools
 pub mod Counting
 pub mod Judging
+pub mod Searching
 pub mod Valid
 pub mod Numbering
 pub mod Counts

@@ -1,0 +1,41 @@
+-- Laws of a search that goes up from 0 and stops at the first number of which something holds; b is what a test said of a number.
+-- Assumes nothing.
+use mathlib.Core.Path.{_≡_, refl, sym, ap, _∙_}
+use mathlib.Core.Logic.{⊎-elim}
+use mathlib.Core.Bool.{Bool, true, false}
+use mathlib.Core.List.{List, _∷_}
+use Prim.Native.Nat.{ℕ, _+_, _<_}
+use native.Mathlib.Omega.{arith}
+use native.Mathlib.Numerals.{add-one}
+use borrow.Author.Tests.{eq-eqb, ne-eqb}
+use Rattle.rules.specs.Counting.{first}
+use Rattle.rules.specs.Answers.{Rule, noneAtFault, judge}
+use Rattle.rules.specs.declared.Refusal.{Refusal}
+use Rattle.rules.specs.declared.Verdict.the-variants.{Refused}
+use Rattle.rules.proofs.Bools.{below-suc}
+use Rattle.rules.proofs.Counting.{first-before, first-is, first-none}
+use Rattle.rules.proofs.Judging.{judge-refused, judge-passed}
+
+module _ (p : ℕ → Bool) where
+  pub none-yet : first 0 p ≡ 0
+  unfolding first
+  none-yet = refl
+
+  -- none below m, and m is not one
+  pub none-more : (m : ℕ) (b : Bool) → first m p ≡ m → b ≡ p m → b ≡ false → first (m + 1) p ≡ m + 1
+  none-more m b h e f =
+      rw add-one
+      (first-none _ p (λ i l. ⊎-elim (λ k. first-before m p i (omega arith)) (λ k. ap p k ∙ sym e ∙ f) (below-suc i m l)))
+
+  -- none below i, and i is one
+  pub found-at : (m i : ℕ) (b : Bool) → first i p ≡ i → i < m → b ≡ p i → b ≡ true → first m p ≡ i
+  found-at m i b h l e t = first-is m p i l (sym e ∙ t) (λ j k. first-before i p j (omega arith))
+
+-- ---- a rule that none of the numbers below m is at fault
+
+module _ (m : ℕ) (p : ℕ → Bool) (refusal : ℕ → Refusal) (rs : List Rule) where
+  pub judge-found : (i : ℕ) → i < m → first m p ≡ i → judge (noneAtFault m p refusal ∷ rs) ≡ Refused (refusal i)
+  judge-found i l e = judge-refused _ rs (ne-eqb (first m p) m (λ h. omega arith)) ∙ ap (λ k. Refused (refusal k)) e
+
+  pub judge-none : first m p ≡ m → judge (noneAtFault m p refusal ∷ rs) ≡ judge rs
+  judge-none e = judge-passed _ rs (eq-eqb _ _ e)
