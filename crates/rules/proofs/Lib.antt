@@ -10,3 +10,4 @@ pub mod LaidOut
 pub mod Clauses
 pub mod Moves
 pub mod Pairing
+pub mod Schedules
