@@ -3,3 +3,4 @@ pub mod Bools
 pub mod Counting
 pub mod Judging
 pub mod Valid
+pub mod Texts
