@@ -3,4 +3,6 @@ pub mod Bools
 pub mod Counting
 pub mod Judging
 pub mod Valid
+pub mod Contents
 pub mod Texts
+pub mod Files

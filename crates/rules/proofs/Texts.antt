@@ -2,8 +2,8 @@
 -- Assumes nothing.
 use mathlib.Core.Path.{_≡_, refl, sym, ap, _∙_}
 use mathlib.Core.Bool.{true}
-use mathlib.Core.List.{List, [], _∷_, _++_, map, append-assoc}
-use Prim.Native.Nat.{ℕ, zero, suc, _+_, _*_, _≤_, _<_}
+use mathlib.Core.List.{List, [], _∷_, _++_, map, append-nil, append-assoc}
+use Prim.Native.Nat.{ℕ, zero, suc, _+_, _*_, _/_, _≤_, _<_}
 use native.Mathlib.Omega.{arith}
 use borrow.Author.Tests.{le-leb}
 use lib.Dec.{leb}
@@ -52,6 +52,12 @@ pairs-back before ps behind at e =
       variable = pair-byte before ps behind i 0 (place i) h (omega arith) (omega arith) k;
       value = pair-byte before ps behind i 1 (place i + 1) h (omega arith) (omega arith) k;
     }))
+
+-- a body of pairs and nothing else
+pub goal-back : (ps : List Pair) → pairsAt (pairText ps) 0 (length (pairText ps) / pairBytes) ≡ ps
+goal-back ps =
+    let count : length (pairText ps) / pairBytes ≡ length ps = omega (arith, length-pairText ps) in
+    rw count (ap (λ s. pairsAt s 0 (length ps)) (sym (append-nil (pairText ps))) ∙ pairs-back [] ps [] 0 refl)
 
 -- ---- actions
 
