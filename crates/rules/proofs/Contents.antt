@@ -2,7 +2,7 @@
 -- Assumes nothing.
 use mathlib.Core.Path.{_≡_, refl, sym, ap, _∙_}
 use mathlib.Core.Logic.{⊎-elim}
-use mathlib.Core.Bool.{Bool, true, false, not, _&&_, _||_}
+use mathlib.Core.Bool.{false, not}
 use mathlib.Core.List.{List, [], _∷_, _++_}
 use Prim.Native.Nat.{ℕ, zero, suc, _+_, _-_, _*_, _≤_, _<_}
 use native.Mathlib.Omega.{arith}
@@ -31,12 +31,13 @@ pub accepted-contents : (file : List ℕ) → contentsVerdict file ≡ Accepted 
 unfolding contentsVerdict contentsRules rowAtFault
 accepted-contents file h =
     let lengths = judge-head _ _ h in
+    let last : ℕ = contentsRows - 1 in
     let row : (r : ℕ) → r < contentsRows → rowAtFault file r ≡ false = none-at contentsRows (rowAtFault file) (judge-head _ _ (judge-tail _ _ h)) in
     record {
       long-enough = leb-true _ _ (and-left (leb contentsBytes (length file)) _ lengths);
       short-enough = leb-true _ _ (and-right (leb contentsBytes (length file)) _ lengths);
       starts = λ r l. eqb-true _ _ (not-false _ (neither-left (not (eqb (bodyStart file r) (dueStart file r))) _ (row r l)));
-      ends = eqb-true _ _ (not-false _ (neither-right (not (eqb (bodyStart file 3) (dueStart file 3))) _ (row 3 (omega arith))));
+      ends = eqb-true _ _ (not-false _ (neither-right (not (eqb (bodyStart file last) (dueStart file last))) _ (row last (omega arith))));
     }
 
 pub contents-accepted : (file : List ℕ) → Contents file → contentsVerdict file ≡ Accepted
@@ -55,7 +56,7 @@ contents-accepted file c =
 
 -- where a body has to start is within the file, with so many rows left
 due-within : (file : List ℕ) → Contents file → (left r : ℕ) → left + r ≡ contentsRows → dueStart file r ≤ length file
-due-within file c zero r e = omega (arith, ap (dueStart file) {x = r} {y = contentsRows} (omega arith) ∙ c .ends)
+due-within file c zero r e = let last : r ≡ contentsRows = omega arith in rw last (omega (arith, c .ends))
 due-within file c (suc left) r e = omega (arith, c .starts r (omega arith), due-within file c left (suc r) (omega arith))
 
 pub body-within : (file : List ℕ) → Contents file → (r : ℕ) → r < contentsRows → bodyStart file r + bodyLength file r ≤ length file
@@ -69,7 +70,8 @@ length-body file c r h =
 
 -- ---- contents of given bodies
 
-byte-behind : (before s : List ℕ) (i k : ℕ) → k ≡ length before + i → byte (before ++ s) k ≡ byte s i
+-- what stands behind some bytes is found so much later
+pub byte-behind : (before s : List ℕ) (i k : ℕ) → k ≡ length before + i → byte (before ++ s) k ≡ byte s i
 byte-behind before s i k e = ap (byte (before ++ s)) e ∙ getD-append-add before s i 0
 
 word-behind : (before s : List ℕ) (i k : ℕ) → k ≡ length before + i → word16 (before ++ s) k ≡ word16 s i
@@ -107,8 +109,13 @@ module _ (bs : List (List ℕ)) (four : length bs ≡ contentsRows) where
 
   pub length-withContents : length withContents ≡ contentsBytes + sumTo contentsRows lengthOf
   length-withContents =
-      omega
-      (arith, length-append (contentsFrom contentsBytes bs) (joined bs), length-contents bs contentsBytes, length-joined bs, ap (λ m. sumTo m lengthOf) four)
+      omega (
+        arith,
+        length-append (contentsFrom contentsBytes bs) (joined bs),
+        length-contents bs contentsBytes,
+        length-joined bs,
+        ap (λ m. sumTo m lengthOf) four,
+      )
 
   row : (r : ℕ) → r < contentsRows → (bodyStart withContents r ≡ contentsBytes + sumTo r lengthOf) × (bodyLength withContents r ≡ lengthOf r)
   row r h = row-back bs contentsBytes (joined bs) r (omega arith)

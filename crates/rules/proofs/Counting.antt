@@ -185,6 +185,12 @@ module _ {X : Type 0} where
   forEach-joined f [] z = refl
   forEach-joined f (y ∷ l) z = forEach-front (length l) (λ i. f (getD (y ∷ l) i z)) ∙ ap (λ r. f y ++ r) (forEach-joined f l z)
 
+  -- a list is made of its elements
+  pub table-getD : (l : List X) (z : X) → table (length l) (λ i. getD l i z) ≡ l
+  unfolding forEach
+  table-getD [] z = refl
+  table-getD (x ∷ l) z = forEach-front (length l) (λ i. getD (x ∷ l) i z ∷ []) ∙ ap (λ r. x ∷ r) (table-getD l z)
+
   -- ---- lists one behind the other
 
   pub length-joined : (ls : List (List X)) → length (joined ls) ≡ sumTo (length ls) (λ i. length (getD ls i []))
@@ -224,6 +230,12 @@ module _ {X : Type 0} where
   unfolding forEach every
   every-forEach p zero f h = refl
   every-forEach p (suc m) f h = every-append p (forEach m f) (f m) (every-forEach p m f (λ i l. h i (omega arith))) (h m (omega arith))
+
+  pub every-joined : (p : X → Bool) (ls : List (List X)) → every (every p) ls ≡ true → every p (joined ls) ≡ true
+  unfolding every joined
+  every-joined p [] h = refl
+  every-joined p (l ∷ ls) h =
+      every-append p l (joined ls) (and-left (every p l) (every (every p) ls) h) (every-joined p ls (and-right (every p l) (every (every p) ls) h))
 
   pub each-of : (p : X → Bool) (m : ℕ) (f : ℕ → List X) → every p (forEach m f) ≡ true → (i : ℕ) → i < m → every p (f i) ≡ true
   unfolding forEach

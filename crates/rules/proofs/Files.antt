@@ -1,55 +1,48 @@
 -- Task files: an accepted file states a valid task, and each valid task has a file that is accepted and read back as it.
 -- Assumes nothing.
 use mathlib.Core.Path.{_≡_, refl, sym, ap, _∙_}
-use mathlib.Core.Bool.{Bool, true, false}
+use mathlib.Core.Bool.{Bool, true}
 use mathlib.Core.List.{List, [], _∷_, _++_, map}
-use Prim.Native.Nat.{ℕ, zero, suc, _+_, _*_, _%_, _/_, _≤_, _<_}
+use Prim.Native.Nat.{ℕ, _+_, _*_, _%_, _/_, _≤_, _<_}
 use native.Mathlib.Omega.{arith}
 use borrow.Author.Tests.{lt-ltb, eq-eqb}
 use lib.Dec.{ltb, eqb}
 use lib.ListN.{length, getD, length-append}
-use Rattle.rules.specs.Counting.{sumTo, forEach, every, joined}
-use Rattle.rules.specs.Limits.{maxFile, maxActions, maxPairs, contentsBytes, contentsRows, pairBytes, countBytes}
-use Rattle.rules.specs.Answers.{judge, inTurn}
-use Rattle.rules.specs.Task.{Pair, Action, Task, n, d, A, startValue, pair, action, taskRules, Valid}
+use Rattle.rules.specs.Counting.{sumTo, every, joined}
+use Rattle.rules.specs.Limits.{maxFile, maxPairs, contentsBytes, contentsRows, pairBytes, countBytes}
+use Rattle.rules.specs.Task.{Pair, Action, Task, n, A, startValue, pair, action, Valid}
 use Rattle.rules.specs.File.{contentsRules, contentsVerdict, body, pairsAt, actionIn, rests, isWhole, taskOf, fileRules, fileVerdict, pairText, actionText, bodiesOf, bytes16, contentsFrom, fileOf}
 use Rattle.rules.specs.declared.Verdict.the-variants.{Accepted}
-use Rattle.rules.proofs.Bools.{and-both}
-use Rattle.rules.proofs.Counting.{sumTo-le, sumTo-const, length-forEach, forEach-joined, every-append, every-forEach, every-by}
+use Rattle.rules.proofs.Counting.{sumTo-le, sumTo-const, length-forEach, forEach-joined, every-append, every-forEach, every-joined, every-by}
 use Rattle.rules.proofs.Judging.{judge-append, inTurn-left, inTurn-right, inTurn-both}
 use Rattle.rules.proofs.Valid.{Inside, InOrder, ActionFine, WellFormed, Judged, accepted-judged, judged-accepted, well-formed-valid}
 use Rattle.rules.proofs.Contents.{Contents, accepted-contents, contents-accepted, length-contents, length-withContents, contents-back, body-back}
-use Rattle.rules.proofs.Texts.{length-pairText, goal-back, length-actionText, actions-back, actions-whole}
+use Rattle.rules.proofs.Actions.{length-pairText, goal-back, length-actionText, actions-back, actions-whole}
 
 -- ---- accepted files
 
 -- what acceptance of a file says
-pub record InOrderFile (file : List ℕ) : Type 0 where
+pub record FileJudged (file : List ℕ) : Type 0 where
   pub contents : Contents file
-  pub judged : Judged (eqb (length (body file 2) % pairBytes) 0) (isWhole (rests (body file 3))) (taskOf file)
+  pub task : Judged (eqb (length (body file 2) % pairBytes) 0) (isWhole (rests (body file 3))) (taskOf file)
 
--- the contents are judged first, then the task
-verdict-in-turn : (file : List ℕ)
-    → fileVerdict file
-    ≡ inTurn (contentsVerdict file) (judge (taskRules (eqb (length (body file 2) % pairBytes) 0) (isWhole (rests (body file 3))) (taskOf file)))
+pub accepted-file : (file : List ℕ) → fileVerdict file ≡ Accepted → FileJudged file
 unfolding fileVerdict fileRules contentsVerdict
-verdict-in-turn file = judge-append (contentsRules file) _
-
-pub accepted-file : (file : List ℕ) → fileVerdict file ≡ Accepted → InOrderFile file
 accepted-file file h =
-    let turns = sym (verdict-in-turn file) ∙ h in
+    let turns = sym (judge-append (contentsRules file) _) ∙ h in
     record {
       contents = accepted-contents file (inTurn-left (contentsVerdict file) _ turns);
-      judged = accepted-judged _ _ (taskOf file) (inTurn-right (contentsVerdict file) _ turns);
+      task = accepted-judged _ _ (taskOf file) (inTurn-right (contentsVerdict file) _ turns);
     }
 
-pub file-accepted : (file : List ℕ) → InOrderFile file → fileVerdict file ≡ Accepted
+pub file-accepted : (file : List ℕ) → FileJudged file → fileVerdict file ≡ Accepted
+unfolding fileVerdict fileRules contentsVerdict
 file-accepted file f =
-    verdict-in-turn file ∙ inTurn-both _ _ (contents-accepted file (f .contents)) (judged-accepted _ _ (taskOf file) (f .judged))
+    judge-append (contentsRules file) _ ∙ inTurn-both _ _ (contents-accepted file (f .contents)) (judged-accepted _ _ (taskOf file) (f .task))
 
 -- an accepted file states a valid task
 pub accepted-well-formed : (file : List ℕ) → fileVerdict file ≡ Accepted → WellFormed (taskOf file)
-accepted-well-formed file h = accepted-file file h .judged .well-formed
+accepted-well-formed file h = accepted-file file h .task .well-formed
 
 pub accepted-valid : (file : List ℕ) → fileVerdict file ≡ Accepted → Valid (taskOf file)
 accepted-valid file h = well-formed-valid (taskOf file) (accepted-well-formed file h)
@@ -76,7 +69,10 @@ read-back T =
       actions = (ap (λ s. map actionIn (rests s)) (actions-body T) ∙ actions-back (T .actions)) i;
     }
 
-action-short : (T : Task) (a : Action) → ActionFine T a → length (actionText a) ≤ countBytes + pairBytes * (maxPairs + maxPairs)
+abbrev longestAction : ℕ
+longestAction = countBytes + pairBytes * (maxPairs + maxPairs)
+
+action-short : (T : Task) (a : Action) → ActionFine T a → length (actionText a) ≤ longestAction
 action-short T a f = omega (arith, length-actionText a, f)
 
 -- no valid task's file is over the longest
@@ -84,40 +80,44 @@ pub file-short : (T : Task) → WellFormed T → length (fileOf T) ≤ maxFile
 unfolding fileOf bodiesOf sumTo
 file-short T t =
     let text : ℕ → List ℕ = λ a. actionText (action T a) in
-    let longest : ℕ = countBytes + pairBytes * (maxPairs + maxPairs) in
     omega (
       arith,
       length-withContents (bodiesOf T) refl,
       length-pairText (T .goal),
       length-forEach (A T) text,
-      sumTo-le (A T) (λ a. length (text a)) (λ a. longest) (λ a l. action-short T (action T a) (t .actions-fine a l)),
-      sumTo-const (A T) longest,
+      sumTo-le (A T) (λ a. length (text a)) (λ a. longestAction) (λ a l. action-short T (action T a) (t .actions-fine a l)),
+      sumTo-const (A T) longestAction,
     )
 
 -- each valid task's file is accepted
-pub file-of-accepted : (T : Task) → WellFormed T → fileVerdict (fileOf T) ≡ Accepted
+pub well-formed-accepted : (T : Task) → WellFormed T → fileVerdict (fileOf T) ≡ Accepted
 unfolding fileOf bodiesOf
-file-of-accepted T t =
+well-formed-accepted T t =
     file-accepted (fileOf T)
     (record {
       contents = contents-back (bodiesOf T) refl (file-short T t);
-      judged =
+      task =
           record {
             well-formed = rw (read-back T) t;
-            goal-whole = eq-eqb (length (body (fileOf T) 2) % pairBytes) 0 (omega (arith, ap length (body-of T 2 (omega arith)), length-pairText (T .goal)));
+            goal-whole = omega (arith, eq-eqb, ap length (body-of T 2 (omega arith)), length-pairText (T .goal));
             each-whole = λ a l. rw (actions-body T) (actions-whole (T .actions) a (omega (arith, l, ap A (read-back T))));
           };
     })
 
 -- ---- its bytes
 
-abbrev pub isByte : ℕ → Bool
-isByte b = ltb b 256
+abbrev pub byteValues : ℕ
+byteValues = 256
 
--- two numbers that are bytes
-two-bytes : (a b : ℕ) → a < 256 → b < 256 → every isByte (a ∷ b ∷ []) ≡ true
+abbrev pub isByte : ℕ → Bool
+isByte b = ltb b byteValues
+
+two-bytes : (a b : ℕ) → a < byteValues → b < byteValues → every isByte (a ∷ b ∷ []) ≡ true
 unfolding every
-two-bytes a b h l = rw (lt-ltb a 256 h, lt-ltb b 256 l)
+two-bytes a b h l = rw (lt-ltb a byteValues h, lt-ltb b byteValues l)
+
+word-bytes : (m : ℕ) → m ≤ maxFile → every isByte (bytes16 m) ≡ true
+word-bytes m h = two-bytes (m % byteValues) (m / byteValues) (omega arith) (omega arith)
 
 contents-bytes : (at : ℕ) (bs : List (List ℕ)) → at + length (joined bs) ≤ maxFile → every isByte (contentsFrom at bs) ≡ true
 unfolding contentsFrom joined every
@@ -125,9 +125,7 @@ contents-bytes at [] h = refl
 contents-bytes at (b ∷ bs) h =
     let fits = length-append b (joined bs) in
     every-append isByte (bytes16 at ++ bytes16 (length b)) (contentsFrom (at + length b) bs)
-    (every-append isByte (bytes16 at) (bytes16 (length b))
-    (two-bytes (at % 256) (at / 256) (omega (arith, fits)) (omega (arith, fits)))
-    (two-bytes (length b % 256) (length b / 256) (omega (arith, fits)) (omega (arith, fits))))
+    (every-append isByte (bytes16 at) (bytes16 (length b)) (word-bytes at (omega (arith, fits))) (word-bytes (length b) (omega (arith, fits))))
     (contents-bytes (at + length b) bs (omega (arith, fits)))
 
 module _ (T : Task) (t : WellFormed T) where
@@ -148,20 +146,20 @@ module _ (T : Task) (t : WellFormed T) where
       (every-append isByte (pairText (a .preconditions)) (pairText (a .effects))
       (pair-bytes (a .preconditions) (f .preconditions-fine)) (pair-bytes (a .effects) (f .effects-fine)))
 
-  start-byte : (x : ℕ) → x < n T → startValue T x < 256
-  start-byte x h = omega (arith, t .start-inside x h, t .domain-small x h)
+  start-byte : (x : ℕ) → x < n T → isByte (startValue T x) ≡ true
+  start-byte x h = omega (arith, lt-ltb, t .start-inside x h, t .domain-small x h)
 
+  -- a valid task's file consists of bytes
   pub file-bytes : every isByte (fileOf T) ≡ true
-  unfolding fileOf bodiesOf joined every
+  unfolding fileOf bodiesOf every
   file-bytes =
       let contents : List ℕ = contentsFrom contentsBytes (bodiesOf T) in
       every-append isByte contents (joined (bodiesOf T))
       (contents-bytes contentsBytes (bodiesOf T)
       (omega (arith, length-append contents (joined (bodiesOf T)), length-contents (bodiesOf T) contentsBytes, file-short T t)))
-      (every-append isByte (T .sizes) _ (every-by isByte (T .sizes) 0 (λ x l. lt-ltb (d T x) 256 (omega (arith, t .domain-small x l))))
-      (every-append isByte (T .start) _
-      (every-by isByte (T .start) 0 (λ x l. lt-ltb (startValue T x) 256 (start-byte x (omega (arith, t .start-whole)))))
-      (every-append isByte (pairText (T .goal)) _ (pair-bytes (T .goal) (t .goal-fine))
-      (every-append isByte (forEach (A T) (λ a. actionText (action T a))) []
-      (every-forEach isByte (A T) (λ a. actionText (action T a)) (λ a l. action-bytes (action T a) (t .actions-fine a l)))
-      refl))))
+      (every-joined isByte (bodiesOf T) (rw (
+        every-by isByte (T .sizes) 0 (λ x l. omega (arith, lt-ltb, t .domain-small x l)),
+        every-by isByte (T .start) 0 (λ x l. start-byte x (omega (arith, t .start-whole))),
+        pair-bytes (T .goal) (t .goal-fine),
+        every-forEach isByte (A T) (λ a. actionText (action T a)) (λ a l. action-bytes (action T a) (t .actions-fine a l)),
+      )))

@@ -4,5 +4,5 @@ pub mod Counting
 pub mod Judging
 pub mod Valid
 pub mod Contents
-pub mod Texts
+pub mod Actions
 pub mod Files

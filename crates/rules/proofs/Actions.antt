@@ -1,20 +1,21 @@
 -- Pairs and actions are read back from the bytes that state them.
 -- Assumes nothing.
 use mathlib.Core.Path.{_≡_, refl, sym, ap, _∙_}
-use mathlib.Core.Bool.{true}
+use mathlib.Core.Bool.{Bool, true}
 use mathlib.Core.List.{List, [], _∷_, _++_, map, append-nil, append-assoc}
 use Prim.Native.Nat.{ℕ, zero, suc, _+_, _*_, _/_, _≤_, _<_}
 use native.Mathlib.Omega.{arith}
 use borrow.Author.Tests.{le-leb}
 use lib.Dec.{leb}
-use lib.ListN.{length, getD, drop, length-append, length-map, List·getD-append}
-use lib.Seq.{getD-append-add, drop-at, ext-getD}
-use Rattle.rules.specs.Counting.{sumTo, table, every, joined}
+use lib.ListN.{length, length-append, length-map, List·getD-append}
+use lib.Seq.{drop-at}
+use Rattle.rules.specs.Counting.{sumTo, every, joined}
 use Rattle.rules.specs.Limits.{pairBytes, countBytes}
 use Rattle.rules.specs.Task.{Pair, Action, pair}
 use Rattle.rules.specs.File.{byte, pairsAt, actionBytes, actionIn, restsUpTo, rests, isWhole, pairText, actionText}
 use Rattle.rules.proofs.Bools.{and-both}
-use Rattle.rules.proofs.Counting.{sumTo-const, length-forEach, length-table, getD-forEach, getD-table, every-getD}
+use Rattle.rules.proofs.Counting.{sumTo-const, length-forEach, forEach-ext, getD-forEach, table-getD, every-getD}
+use Rattle.rules.proofs.Contents.{byte-behind}
 
 -- ---- pairs
 
@@ -30,8 +31,7 @@ unfolding pairText
 pair-byte before ps behind i j k h l e =
     let text : ℕ → List ℕ = λ i. pair ps i .variable ∷ pair ps i .value ∷ [] in
     let place : ℕ = sumTo i (λ i. length (text i)) + j in
-    ap (byte (before ++ (pairText ps ++ behind))) (omega (arith, sumTo-const i pairBytes))
-    ∙ getD-append-add before (pairText ps ++ behind) place 0
+    byte-behind before (pairText ps ++ behind) place k (omega (arith, sumTo-const i pairBytes))
     ∙ List·getD-append (pairText ps) behind 0 place (omega (arith, sumTo-const i pairBytes, length-pairText ps))
     ∙ getD-forEach (length ps) text 0 i j h l
 
@@ -41,17 +41,12 @@ unfolding pairsAt
 pairs-back before ps behind at e =
     let s : List ℕ = before ++ (pairText ps ++ behind) in
     let place : ℕ → ℕ = λ i. at + pairBytes * i in
-    let read : ℕ → Pair = λ i. record { variable = byte s (place i); value = byte s (place i + 1) } in
-    let whole = length-table (length ps) read in
-    let zeros : Pair = record { variable = 0; value = 0 } in
-    ext-getD zeros (table (length ps) read) ps whole (λ i l.
-    let h : i < length ps = omega (arith, whole) in
-    getD-table (length ps) read zeros i h
-    ∙ (λ k.
+    forEach-ext (length ps) (λ i. record { variable = byte s (place i); value = byte s (place i + 1) } ∷ []) (λ i. pair ps i ∷ []) (λ i h k.
     record {
       variable = pair-byte before ps behind i 0 (place i) h (omega arith) (omega arith) k;
       value = pair-byte before ps behind i 1 (place i + 1) h (omega arith) (omega arith) k;
-    }))
+    } ∷ [])
+    ∙ table-getD ps (record { variable = 0; value = 0 })
 
 -- a body of pairs and nothing else
 pub goal-back : (ps : List Pair) → pairsAt (pairText ps) 0 (length (pairText ps) / pairBytes) ≡ ps
@@ -90,10 +85,12 @@ unfolding restsUpTo actionText
 rests-cons most a s =
     ap (λ r. (actionText a ++ s) ∷ restsUpTo most r) (drop-at (actionText a) s (actionBytes (actionText a ++ s)) (own-bytes a s))
 
+abbrev wholeAction : List ℕ → Bool
+wholeAction s = leb (actionBytes s) (length s)
+
 -- the rests of actions' joined texts: each begins with its action, and is whole
 rests-back : (most : ℕ) (l : List Action) → length (joined (map actionText l)) ≤ most
-    → (map actionIn (restsUpTo most (joined (map actionText l))) ≡ l)
-    × (every (λ s. leb (actionBytes s) (length s)) (restsUpTo most (joined (map actionText l))) ≡ true)
+    → (map actionIn (restsUpTo most (joined (map actionText l))) ≡ l) × (every wholeAction (restsUpTo most (joined (map actionText l))) ≡ true)
 unfolding restsUpTo joined every
 rests-back zero [] h = (refl, refl)
 rests-back (suc most) [] h = (refl, refl)
@@ -101,9 +98,9 @@ rests-back zero (a ∷ l) h = absurd (omega (arith, length-append (actionText a)
 rests-back (suc most) (a ∷ l) h =
     let s = joined (map actionText l) in
     let fits = length-append (actionText a) s in
-    let r = rests-back most l (omega (arith, fits, length-actionText a)) in
-    rw (rests-cons most a s)
-    (rw (action-back a s, r .0), and-both _ _ (le-leb (actionBytes (actionText a ++ s)) (length (actionText a ++ s)) (omega (arith, fits, own-bytes a s))) (r .1))
+    let whole : wholeAction (actionText a ++ s) ≡ true = omega (arith, le-leb, fits, own-bytes a s) in
+    let later = rests-back most l (omega (arith, fits, length-actionText a)) in
+    rw (rests-cons most a s) (rw (action-back a s, later .0), and-both _ _ whole (later .1))
 
 pub actions-back : (l : List Action) → map actionIn (rests (joined (map actionText l))) ≡ l
 unfolding rests
@@ -113,4 +110,5 @@ pub actions-whole : (l : List Action) (a : ℕ) → a < length l → isWhole (re
 unfolding rests isWhole
 actions-whole l a h =
     let s = joined (map actionText l) in
-    every-getD (λ s. leb (actionBytes s) (length s)) (rests s) [] (rests-back (length s) l (omega arith) .1) a (omega (arith, ap length (actions-back l), length-map (rests s) actionIn))
+    every-getD wholeAction (rests s) [] (rests-back (length s) l (omega arith) .1) a
+    (omega (arith, ap length (actions-back l), length-map (rests s) actionIn))
