@@ -3,6 +3,9 @@ pub mod Bools
 pub mod Counting
 pub mod Judging
 pub mod Valid
+pub mod Contents
+pub mod Actions
+pub mod Files
 pub mod Numbering
 pub mod Counts
 pub mod Bounds
