@@ -51,7 +51,7 @@ module _ (T : Task) (t : WellFormed T) where
 
   -- the eight counts, each at its own bound
   pub C-bound : (k : ℕ) → k ≤ maxHorizon → C (problem T k) ≤ maxC
-  unfolding sum countTable
+  unfolding sumTo countTable
   C-bound k h =
       let states : suc k ≤ suc maxHorizon = omega arith in
       rw (C-is T k)

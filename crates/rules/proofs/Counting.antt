@@ -3,14 +3,14 @@
 use mathlib.Core.Path.{_≡_, refl, sym, ap, _∙_}
 use mathlib.Core.Logic.{_⊎_, inl, inr, ⊎-elim}
 use mathlib.Core.Bool.{Bool, true, false, cond, not, _&&_, _||_}
-use mathlib.Core.List.{List, [], _∷_, _++_}
+use mathlib.Core.List.{List, [], _∷_, _++_, map, append-nil, append-assoc}
 use Prim.Native.Nat.{ℕ, zero, suc, _+_, _-_, _*_, _≤_, _<_}
 use native.Mathlib.Omega.{arith}
 use native.Mathlib.Nat.{suc-mul, zero-mul, mul-add}
 use borrow.Author.Tests.{ltb-true, ltb-false, lt-ltb, le-ltb, eqb-true, eq-eqb}
 use lib.Dec.{ltb, eqb}
-use lib.ListN.{length, getD, length-append, List·getD-append}
-use lib.Seq.{getD-append-add}
+use lib.ListN.{length, getD, take, drop, length-append, List·getD-append}
+use lib.Seq.{getD-append-add, take-append-seam, drop-append-add}
 use Rattle.rules.specs.Counting.{sumTo, first, forEach, table, forPairs, when, every, any, joined}
 use Rattle.rules.proofs.Bools.{either, clash, and-left, and-right, and-both, or-cases, or-left, or-right, below-or, below-suc}
 
@@ -139,6 +139,12 @@ same-part w i j a b ha hb e =
     (λ l. ⊎-elim (λ r. absurd (omega (arith, sumTo-part i w j r))) (λ r. omega arith) (below-or j i))
     (below-or i j)
 
+-- a sum from its front
+pub sumTo-front : (m : ℕ) (w : ℕ → ℕ) → sumTo (suc m) w ≡ w 0 + sumTo m (λ i. w (suc i))
+unfolding sumTo
+sumTo-front zero w = omega arith
+sumTo-front (suc m) w = omega (arith, sumTo-front m w)
+
 -- ---- lists made for each number
 
 module _ {X : Type 0} where
@@ -175,6 +181,41 @@ module _ {X : Type 0} where
   pub getD-table : (m : ℕ) (f : ℕ → X) (z : X) (i : ℕ) → i < m → getD (table m f) i z ≡ f i
   getD-table m f z i h =
       ap (λ k. getD (table m f) k z) (omega (arith, sumTo-const i 1)) ∙ getD-forEach m (λ i. f i ∷ []) z i 0 h (omega arith)
+
+  -- the same from the front
+  pub forEach-front : (m : ℕ) (f : ℕ → List X) → forEach (suc m) f ≡ f 0 ++ forEach m (λ i. f (suc i))
+  unfolding forEach
+  forEach-front zero f = sym (append-nil (f 0))
+  forEach-front (suc m) f = ap (λ l. l ++ f (suc m)) (forEach-front m f) ∙ append-assoc (f 0) (forEach m (λ i. f (suc i))) (f (suc m))
+
+  pub forEach-joined : {Y : Type 0} (f : Y → List X) (l : List Y) (z : Y) → forEach (length l) (λ i. f (getD l i z)) ≡ joined (map f l)
+  unfolding forEach joined
+  forEach-joined f [] z = refl
+  forEach-joined f (y ∷ l) z = forEach-front (length l) (λ i. f (getD (y ∷ l) i z)) ∙ ap (λ r. f y ++ r) (forEach-joined f l z)
+
+  -- a list is made of its elements
+  pub table-getD : (l : List X) (z : X) → table (length l) (λ i. getD l i z) ≡ l
+  unfolding forEach
+  table-getD [] z = refl
+  table-getD (x ∷ l) z = forEach-front (length l) (λ i. getD (x ∷ l) i z ∷ []) ∙ ap (λ r. x ∷ r) (table-getD l z)
+
+  -- ---- lists one behind the other
+
+  pub length-joined : (ls : List (List X)) → length (joined ls) ≡ sumTo (length ls) (λ i. length (getD ls i []))
+  unfolding joined sumTo
+  length-joined [] = refl
+  length-joined (l ∷ ls) =
+      omega (arith, length-append l (joined ls), length-joined ls, sumTo-front (length ls) (λ i. length (getD (l ∷ ls) i [])))
+
+  -- list r stands behind all the lists before it
+  pub part-joined : (ls : List (List X)) (r : ℕ)
+      → take (length (getD ls r [])) (drop (sumTo r (λ i. length (getD ls i []))) (joined ls)) ≡ getD ls r []
+  unfolding joined sumTo
+  part-joined [] r = refl
+  part-joined (l ∷ ls) zero = take-append-seam l (joined ls)
+  part-joined (l ∷ ls) (suc r) =
+      rw (sumTo-front r (λ i. length (getD (l ∷ ls) i [])), drop-append-add l (joined ls) (sumTo r (λ i. length (getD ls i []))))
+      (part-joined ls r)
 
   -- ---- what holds of each element
 

@@ -1,18 +1,18 @@
 -- The count table: how many clauses each family has, and that C is their sum.
 -- Assumes nothing.
-use mathlib.Core.Path.{_≡_, refl, ap, _∙_}
+use mathlib.Core.Path.{_≡_, refl, sym, ap, _∙_}
 use mathlib.Core.Bool.{Bool, true, false}
 use mathlib.Core.List.{List, [], _∷_, map}
 use Prim.Native.Nat.{ℕ, zero, suc, _+_, _-_, _*_, _/_, _≤_, _<_}
 use native.Mathlib.Omega.{arith}
 use native.Mathlib.Nat.{mul-sub}
-use lib.ListN.{length, length-append}
+use lib.ListN.{length, getD, length-map, List·getD-map}
 use Rattle.rules.specs.Counting.{sumTo, forEach, forPairs, when, joined}
 use Rattle.rules.specs.Task.{Task, n, d, S, A, action}
 use Rattle.rules.specs.Problem.{Problem, problem}
 use Rattle.rules.specs.Families.{family1, family2, family3, family4, family5, family6, family7, family8, families, formula, C}
 use Rattle.rules.specs.Counts.{pairsBelow, pairsBefore, sum, countTable}
-use Rattle.rules.proofs.Counting.{sumTo-ext, sumTo-const, sumTo-most, length-forEach, length-table}
+use Rattle.rules.proofs.Counting.{sumTo-ext, sumTo-const, sumTo-most, length-forEach, length-table, length-joined}
 
 -- ---- pairs
 
@@ -56,10 +56,11 @@ module _ {X : Type 0} where
   length-when true l = omega arith
   length-when false l = omega arith
 
-  pub length-joined : (ls : List (List X)) → length (joined ls) ≡ sum (map length ls)
-  unfolding joined sum
-  length-joined [] = refl
-  length-joined (l ∷ ls) = length-append l (joined ls) ∙ ap (λ c. length l + c) (length-joined ls)
+  pub length-all : (ls : List (List X)) → length (joined ls) ≡ sum (map length ls)
+  length-all ls =
+      length-joined ls
+      ∙ sumTo-ext (length ls) _ (λ i. getD (map length ls) i 0) (λ i l. sym (List·getD-map length ls i []))
+      ∙ ap (λ m. sumTo m (λ i. getD (map length ls) i 0)) (sym (length-map ls length))
 
 -- ---- the families
 
@@ -105,4 +106,4 @@ counts T k =
 
 pub C-is : (T : Task) (k : ℕ) → C (problem T k) ≡ sum (countTable T k)
 unfolding C formula
-C-is T k = length-joined (families (problem T k)) ∙ ap sum (counts T k)
+C-is T k = length-all (families (problem T k)) ∙ ap sum (counts T k)

@@ -1,6 +1,6 @@
 -- An assignment laid out in the order of the numbering: what stands at the number of a value or of an action, and that nothing else stands there.
 -- Assumes nothing.
-use mathlib.Core.Path.{_≡_, refl, sym, ap, _∙_}
+use mathlib.Core.Path.{_≡_, refl, sym, ap, ap₂, _∙_}
 use mathlib.Core.Logic.{_⊎_, inl, inr, ⊎-elim}
 use mathlib.Core.Bool.{Bool, false}
 use mathlib.Core.List.{List, [], _∷_, _++_}
@@ -13,7 +13,7 @@ use Rattle.rules.specs.Task.{Task, n, d, off, S, A}
 use Rattle.rules.specs.Problem.{Problem}
 use Rattle.rules.specs.Numbering.{stride, valueNumber, actionNumber, N}
 use Rattle.rules.proofs.Bools.{below-or}
-use Rattle.rules.proofs.Counting.{sumTo-ext, sumTo-const, sumTo-part, length-forEach, length-table, getD-forEach, getD-table}
+use Rattle.rules.proofs.Counting.{sumTo-ext, sumTo-const, sumTo-part, length-forEach, length-table, forEach-ext, getD-forEach, getD-table}
 use Rattle.rules.proofs.Numbering.{value-place, step-before, AtValue, AtAction, ValueAt, ActionAt, numbered, value-number-positive, action-number-positive}
 
 -- what an assignment says of value v of x at step s, and of action a at step s
@@ -147,3 +147,15 @@ laid-out P val act bits size hv ha =
     ∙ sym (layout-action P val act (r .step) (r .action) (r .at))
     ∙ ap (λ j. getD (layout P val act) j false) (omega (arith, r .is)))
     (numbered P (suc i) (omega arith) (omega arith)))
+
+-- equal parts are laid out alike
+pub layout-ext : (P : Problem) (val val′ : Values) (act act′ : Moves)
+    → ((s : ℕ) → s ≤ P .horizon → valuesAt (P .task) (val s) ≡ valuesAt (P .task) (val′ s))
+    → ((s a : ℕ) → s < P .horizon → a < A (P .task) → act s a ≡ act′ s a)
+    → layout P val act ≡ layout P val′ act′
+unfolding layout stepAt
+layout-ext P val val′ act act′ hv ha =
+    ap₂ _++_
+    (forEach-ext (P .horizon) _ _ (λ s l.
+    ap₂ _++_ (hv s (omega arith)) (forEach-ext (A (P .task)) _ _ (λ a b. ap (λ t. t ∷ []) (ha s a l b)))))
+    (hv (P .horizon) (omega arith))

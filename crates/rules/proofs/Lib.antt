@@ -4,6 +4,9 @@ pub mod Counting
 pub mod Judging
 pub mod Searching
 pub mod Valid
+pub mod Contents
+pub mod Actions
+pub mod Files
 pub mod Numbering
 pub mod Counts
 pub mod Bounds
@@ -11,3 +14,4 @@ pub mod LaidOut
 pub mod Clauses
 pub mod Moves
 pub mod Pairing
+pub mod Schedules

@@ -190,3 +190,36 @@ length-walked T fine moves (suc s) = omega (arith, length-carried T (moves s) (A
 pub start-at : (T : Task) → WellFormed T → (x : ℕ) → x < n T → getD (startState T) x 0 ≡ startValue T x
 unfolding startState
 start-at T fine x h = List·getD-append (T .start) _ 0 x (omega (arith, fine .start-whole))
+
+-- ---- only the choices below the bounds count
+
+pub carried-ext : (T : Task) (c c′ : Chosen) (m : ℕ) (σ : State) → ((a : ℕ) → a < m → c a ≡ c′ a) → carried T c m σ ≡ carried T c′ m σ
+unfolding carried
+carried-ext T c c′ zero σ h = refl
+carried-ext T c c′ (suc m) σ h = rw (carried-ext T c c′ m σ (λ a l. h a (omega arith)), h m (omega arith))
+
+pub walked-ext : (T : Task) (c c′ : ℕ → Chosen) (k : ℕ) → ((s a : ℕ) → s < k → a < A T → c s a ≡ c′ s a) → walked T c k ≡ walked T c′ k
+unfolding walked
+walked-ext T c c′ zero h = refl
+walked-ext T c c′ (suc k) h =
+    carried-ext T (c k) (c′ k) (A T) (walked T c k) (λ a l. h k a (omega arith) l)
+    ∙ ap (carried T (c′ k) (A T)) (walked-ext T c c′ k (λ s a l b. h s a (omega arith) b))
+
+-- ---- at most one move
+
+pub carried-none : (T : Task) (c : Chosen) (m : ℕ) (σ : State) → ((a : ℕ) → a < m → c a ≡ false) → carried T c m σ ≡ σ
+unfolding carried
+carried-none T c zero σ h = refl
+carried-none T c (suc m) σ h = carried-stay T c m σ (h m (omega arith)) ∙ carried-none T c m σ (λ a l. h a (omega arith))
+
+pub carried-one : (T : Task) (c : Chosen) (m : ℕ) (σ : State) (a : ℕ) → a < m → c a ≡ true → ((b : ℕ) → b < m → (b ≡ a → ⊥) → c b ≡ false)
+    → carried T c m σ ≡ apply T a σ
+carried-one T c zero σ a l t h = absurd (omega arith)
+carried-one T c (suc m) σ a l t h =
+    ⊎-elim
+    (λ b. carried-stay T c m σ (h m (omega arith) (λ e. omega arith)) ∙ carried-one T c m σ a b t (λ b′ l′ ne. h b′ (omega arith) ne))
+    (λ e.
+    carried-move T c m σ (ap c (sym e) ∙ t)
+    ∙ ap (apply T m) (carried-none T c m σ (λ b l′. h b (omega arith) (λ q. omega arith)))
+    ∙ ap (λ b. apply T b σ) (sym e))
+    (below-suc a m l)

@@ -1,8 +1,8 @@
 -- The count of each family, as the rules' table has it.
 -- Assumes nothing.
 use mathlib.Core.List.{List, [], _∷_}
-use Prim.Native.Nat.{ℕ, suc, _+_, _-_, _*_, _/_}
-use lib.ListN.{length}
+use Prim.Native.Nat.{ℕ, suc, _-_, _*_, _/_}
+use lib.ListN.{length, getD}
 use Rattle.rules.specs.Counting.{sumTo}
 use Rattle.rules.specs.Task.{Task, n, d, S, A, action}
 
@@ -14,9 +14,8 @@ pairsBelow m = m * (m - 1) / 2
 abbrev pub pairsBefore : ℕ → ℕ → ℕ
 pairsBefore m i = i * (2 * m - i - 1) / 2
 
-unfoldable pub sum : List ℕ → ℕ
-sum [] = 0
-sum (c ∷ cs) = c + sum cs
+abbrev pub sum : List ℕ → ℕ
+sum cs = sumTo (length cs) (λ i. getD cs i 0)
 
 unfoldable pub countTable : Task → ℕ → List ℕ
 countTable T k =
