@@ -6,18 +6,22 @@ use mathlib.Core.List.{List, [], _∷_}
 use Prim.Native.Nat.{ℕ, zero, suc, _+_, _-_, _*_, _≤_, _<_}
 use native.Mathlib.Omega.{arith}
 use native.Mathlib.Numerals.{add-one}
-use borrow.Author.Tests.{eq-eqb, ne-eqb, le-leb, lt-leb}
-use lib.Dec.{eqb, leb}
-use lib.ListN.{length}
+use borrow.Author.Tests.{eq-eqb, ne-eqb, le-leb, lt-leb, lt-ltb, le-ltb}
+use lib.Dec.{eqb, leb, ltb}
+use lib.ListN.{length, take, drop}
+use denote.Ref.{RefT, now}
 use Rattle.rules.specs.Counting.{first}
 use Rattle.rules.specs.Limits.{maxFile, contentsRows, contentsBytes, rowBytes}
 use Rattle.rules.specs.Answers.{noneAtFault, judge}
-use Rattle.rules.specs.File.{word16, dueStart, bodyStart, rowAtFault, contentsRules, contentsVerdict}
+use Rattle.rules.specs.File.{word16, dueStart, bodyStart, bodyLength, body, rowAtFault, contentsRules, contentsVerdict, bodyAsked}
+use Rattle.rules.specs.declared.Refusal.{Refusal}
 use Rattle.rules.specs.declared.Refusal.the-variants.{FileLength, ContentsRow}
 use Rattle.rules.specs.declared.Verdict.{Verdict}
 use Rattle.rules.specs.declared.Verdict.the-variants.{Accepted, Refused}
 use Rattle.rules.proofs.Judging.{judge-refused, judge-passed, judge-nil}
+use Rattle.rules.proofs.Contents.{accepted-contents, body-within}
 use Rattle.rules.proofs.Searching.{found-at, judge-found, judge-none}
+use Rattle.task.specs.Stretches.{Stretch, startAsked}
 
 pub due-later : (file : List ℕ) (row a b : ℕ) → (row ≡ 0 → ⊥)
     → a ≡ word16 file (rowBytes * (row - 1)) → b ≡ word16 file (rowBytes * (row - 1) + 2) → a + b ≡ dueStart file row
@@ -67,3 +71,48 @@ module _ (file : List ℕ) where
     rows-accepted row n i g =
         let e : row ≡ contentsRows = omega arith in
         sym (length-passed ∙ judge-none _ _ ContentsRow [] (rw e at n) ∙ judge-nil)
+
+-- ---- bodies; a is where a row's body starts, b how long it is
+
+pub contents-there : (file : List ℕ) → contentsVerdict file ≡ Accepted → contentsBytes ≤ length file
+contents-there file h = accepted-contents file h .long-enough
+
+pub body-there : (file : List ℕ) (row a b : ℕ) → contentsVerdict file ≡ Accepted → row < contentsRows
+    → a ≡ bodyStart file row → b ≡ bodyLength file row → a + b ≤ length file
+body-there file row a b h l ea eb = rw (ea, eb) (body-within file (accepted-contents file h) row l)
+
+pub body-is : (file : List ℕ) (row a b : ℕ) → a ≡ bodyStart file row → b ≡ bodyLength file row → take (a + b - a) (drop a file) ≡ body file row
+unfolding body
+body-is file row a b ea eb = let e : a + b - a ≡ b = omega arith in rw (e, ea, eb)
+
+-- ---- the body asked for
+
+abbrev pub IsAsked : (whole part : RefT (List ℕ)) → ℕ → Type 0
+IsAsked whole part b = Stretch whole part (startAsked (now whole) b) (bodyAsked (now whole) b)
+
+module _ (whole part : RefT (List ℕ)) (v : Verdict) (e : v ≡ contentsVerdict (now whole)) where
+  pub none-refused : (b : ℕ) (why : Refusal) → v ≡ Refused why → Stretch whole part 0 [] → IsAsked whole part b
+  unfolding bodyAsked startAsked
+  none-refused b why f s = let g : contentsVerdict (now whole) ≡ Refused why = sym e ∙ f in rw g s
+
+  module _ (f : v ≡ Accepted) where
+    accepted : contentsVerdict (now whole) ≡ Accepted
+    accepted = sym e ∙ f
+
+    pub none-zero : (b : ℕ) → b ≡ 0 → Stretch whole part 0 [] → IsAsked whole part b
+    unfolding bodyAsked startAsked
+    none-zero b z s = rw (accepted, z) s
+
+    pub none-above : (b : ℕ) → contentsRows < b → Stretch whole part 0 [] → IsAsked whole part b
+    unfolding bodyAsked startAsked
+    none-above zero z s = absurd (omega arith)
+    none-above (suc r) z s = let l : ltb r contentsRows ≡ false = omega (arith, le-ltb) in rw (accepted, l) s
+
+    pub one-asked : (b : ℕ) → (b ≡ 0 → ⊥) → b ≤ contentsRows
+        → Stretch whole part (bodyStart (now whole) (b - 1)) (body (now whole) (b - 1)) → IsAsked whole part b
+    unfolding bodyAsked startAsked
+    one-asked zero z g s = absurd (z refl)
+    one-asked (suc r) z g s =
+        let l : ltb r contentsRows ≡ true = omega (arith, lt-ltb) in
+        let p : suc r - 1 ≡ r = omega arith in
+        rw (accepted, l) (rw p at s)

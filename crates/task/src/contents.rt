@@ -1,12 +1,18 @@
 // The table of contents: refusals 1 and 2, and the bodies that its rows name.
+use crate::limits::CONTENTS_BYTES;
+use crate::limits::CONTENTS_ROWS;
+use crate::limits::MAX_FILE;
+use crate::limits::ROW_BYTES;
 use rules::Refusal;
 use rules::Verdict;
-use crate::limits::{CONTENTS_BYTES, CONTENTS_ROWS, MAX_FILE, ROW_BYTES};
 ghost use mathlib.Core.Path.{_≡_};
+ghost use mathlib.Core.List.{[]};
 ghost use Prim.Native.Nat.{_+_, _<_, _≤_};
 ghost use lib.ListN.{length};
 ghost use Rattle.rules.specs.Limits.{contentsBytes, contentsRows};
-ghost use Rattle.rules.specs.File.{byte, word16, dueStart, rowAtFault, contentsVerdict, bodyAsked};
+ghost use Rattle.rules.specs.File.{byte, word16, bodyStart, dueStart, rowAtFault, contentsVerdict, body, bodyAsked};
+ghost use Rattle.rules.specs.declared.Verdict.the-variants.{Accepted};
+ghost use Rattle.task.specs.Stretches.{Stretch, startAsked};
 
 // The byte at place i.
 pub fn byte_at(s: &[u8], i: usize) -> usize
@@ -68,4 +74,37 @@ pub fn contents_verdict(file: &[u8]) -> Verdict
         row += 1;
     }
     Verdict::Accepted
+}
+
+// The stretch that row `row` names; for accepted contents only.
+pub fn row_body(file: &[u8], row: usize) -> &[u8]
+    requires { ⌜ (contentsVerdict (now file) ≡ Accepted) × (row < contentsRows) ⌝ }
+    ensures { λ r. ⌜ Stretch (file .entry) r (bodyStart (now (file .entry)) row) (body (now (file .entry)) row) ⌝ }
+{
+    let start = word_at(file, ROW_BYTES * row);
+    let bytes = word_at(file, ROW_BYTES * row + 2);
+    &file[start..start + bytes]
+}
+
+// The empty part of a file, from its first byte on.
+fn no_body(file: &[u8]) -> &[u8]
+    ensures { λ r. ⌜ Stretch (file .entry) r 0 [] ⌝ }
+{
+    &file[0..0]
+}
+
+// The body of a number, from 1; the empty part where refusal 1 or 2 applies or the file has no such body.
+pub fn body_asked(file: &[u8], number: usize) -> &[u8]
+    ensures { λ r. ⌜ Stretch (file .entry) r (startAsked (now (file .entry)) number) (bodyAsked (now (file .entry)) number) ⌝ }
+{
+    let Verdict::Accepted = contents_verdict(file) else {
+        return no_body(file);
+    };
+    if number == 0 {
+        return no_body(file);
+    }
+    if CONTENTS_ROWS < number {
+        return no_body(file);
+    }
+    row_body(file, number - 1)
 }

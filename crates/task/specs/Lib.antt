@@ -1,0 +1,2 @@
+-- What the reader's contracts cite beside the rules.
+pub mod Stretches
