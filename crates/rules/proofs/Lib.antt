@@ -7,6 +7,8 @@ pub mod Valid
 pub mod Contents
 pub mod Actions
 pub mod Files
+pub mod Rests
+pub mod Pairs
 pub mod Numbering
 pub mod Counts
 pub mod Bounds

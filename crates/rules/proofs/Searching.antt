@@ -4,7 +4,7 @@ use mathlib.Core.Path.{_≡_, refl, sym, ap, _∙_}
 use mathlib.Core.Logic.{⊎-elim}
 use mathlib.Core.Bool.{Bool, true, false}
 use mathlib.Core.List.{List, _∷_}
-use Prim.Native.Nat.{ℕ, _+_, _<_}
+use Prim.Native.Nat.{ℕ, _+_, _≤_, _<_}
 use native.Mathlib.Omega.{arith}
 use native.Mathlib.Numerals.{add-one}
 use borrow.Author.Tests.{eq-eqb, ne-eqb}
@@ -12,8 +12,8 @@ use Rattle.rules.specs.Counting.{first}
 use Rattle.rules.specs.Answers.{Rule, noneAtFault, judge}
 use Rattle.rules.specs.declared.Refusal.{Refusal}
 use Rattle.rules.specs.declared.Verdict.the-variants.{Refused}
-use Rattle.rules.proofs.Bools.{below-suc}
-use Rattle.rules.proofs.Counting.{first-before, first-is, first-none}
+use Rattle.rules.proofs.Bools.{clash, below-or, below-suc}
+use Rattle.rules.proofs.Counting.{first-before, first-at, first-is, first-none}
 use Rattle.rules.proofs.Judging.{judge-refused, judge-passed}
 
 module _ (p : ℕ → Bool) where
@@ -28,14 +28,23 @@ module _ (p : ℕ → Bool) where
       (first-none _ p (λ i l. ⊎-elim (λ k. first-before m p i (omega arith)) (λ k. ap p k ∙ sym e ∙ f) (below-suc i m l)))
 
   -- none below i, and i is one
-  pub found-at : (m i : ℕ) (b : Bool) → first i p ≡ i → i < m → b ≡ p i → b ≡ true → first m p ≡ i
-  found-at m i b h l e t = first-is m p i l (sym e ∙ t) (λ j k. first-before i p j (omega arith))
+  pub found-at : (m i : ℕ) (b : Bool) → first i p ≡ i → i < m → b ≡ p i → b ≡ true → i ≡ first m p
+  found-at m i b h l e t = sym (first-is m p i l (sym e ∙ t) (λ j k. first-before i p j (omega arith)))
+
+  -- none below i: the first is not below i
+  pub first-beyond : (m i : ℕ) → first i p ≡ i → i ≤ m → i ≤ first m p
+  first-beyond m i h l =
+      ⊎-elim (λ b. clash (first-at m p (omega arith)) (first-before i p (first m p) (omega arith))) (λ b. b) (below-or (first m p) i)
+
+  -- none below m, where the search has come
+  pub none-at-all : (m i : ℕ) → first i p ≡ i → i ≤ m → m ≤ i → i ≡ first m p
+  none-at-all m i h l k = let e : i ≡ m = omega arith in sym h ∙ ap (λ k. first k p) e
 
 -- ---- a rule that none of the numbers below m is at fault
 
 module _ (m : ℕ) (p : ℕ → Bool) (refusal : ℕ → Refusal) (rs : List Rule) where
-  pub judge-found : (i : ℕ) → i < m → first m p ≡ i → judge (noneAtFault m p refusal ∷ rs) ≡ Refused (refusal i)
-  judge-found i l e = judge-refused _ rs (ne-eqb (first m p) m (λ h. omega arith)) ∙ ap (λ k. Refused (refusal k)) e
+  pub judge-found : (i : ℕ) → i < m → i ≡ first m p → judge (noneAtFault m p refusal ∷ rs) ≡ Refused (refusal i)
+  judge-found i l e = judge-refused _ rs (ne-eqb (first m p) m (λ h. omega arith)) ∙ ap (λ k. Refused (refusal k)) (sym e)
 
   pub judge-none : first m p ≡ m → judge (noneAtFault m p refusal ∷ rs) ≡ judge rs
   judge-none e = judge-passed _ rs (eq-eqb _ _ e)

@@ -1,3 +1,6 @@
 // Task files: the reader (refusals 1 to 7), bodies by number, what is asked of an accepted file, the numbering, and the state record.
-pub mod contents;
 pub mod limits;
+pub mod contents;
+pub mod checks;
+pub mod actions;
+pub mod file;

@@ -1,0 +1,78 @@
+-- The rests of an action body, one for each action: reading from the first byte on, action by action, meets them in turn.
+-- Assumes nothing.
+use mathlib.Core.Path.{_≡_, refl, sym, ap, _∙_}
+use mathlib.Core.List.{List, [], _∷_, map}
+use Prim.Native.Nat.{ℕ, zero, suc, _+_, _-_, _≤_, _<_}
+use native.Mathlib.Omega.{arith}
+use lib.ListN.{length, getD, drop, length-drop, List·getD-map}
+use lib.Seq.{drop-drop, drop-length, getD-drop}
+use Rattle.rules.specs.Counting.{forEach}
+use Rattle.rules.specs.File.{actionBytes, pairsAt, actionIn, restsUpTo, rests}
+
+-- enough is as good as more
+rests-enough : (most more : ℕ) (s : List ℕ) → length s ≤ most → length s ≤ more → restsUpTo most s ≡ restsUpTo more s
+unfolding restsUpTo
+rests-enough zero zero [] h k = refl
+rests-enough zero (suc more) [] h k = refl
+rests-enough (suc most) zero [] h k = refl
+rests-enough (suc most) (suc more) [] h k = refl
+rests-enough zero more (p ∷ s) h k = absurd (omega arith)
+rests-enough (suc most) zero (p ∷ s) h k = absurd (omega arith)
+rests-enough (suc most) (suc more) (p ∷ s) h k =
+    let next : List ℕ = drop (actionBytes (p ∷ s)) (p ∷ s) in
+    let shorter = length-drop (actionBytes (p ∷ s)) (p ∷ s) in
+    ap (λ r. (p ∷ s) ∷ r) (rests-enough most more next (omega (arith, shorter)) (omega (arith, shorter)))
+
+pub rests-nil : rests [] ≡ []
+unfolding rests restsUpTo
+rests-nil = refl
+
+pub rests-cons : (s : List ℕ) → 0 < length s → rests s ≡ s ∷ rests (drop (actionBytes s) s)
+unfolding rests restsUpTo
+rests-cons [] h = absurd (omega arith)
+rests-cons (p ∷ s) h =
+    let next : List ℕ = drop (actionBytes (p ∷ s)) (p ∷ s) in
+    let shorter = length-drop (actionBytes (p ∷ s)) (p ∷ s) in
+    ap (λ r. (p ∷ s) ∷ r) (rests-enough (length s) (length next) next (omega (arith, shorter)) (omega arith))
+
+-- ---- a reading of s that stands at place at, before action a
+
+pub record Reached (s : List ℕ) (at a : ℕ) : Type 0 where
+  pub within : at ≤ length s
+  pub passed : a ≤ length (rests s)
+  pub left : drop a (rests s) ≡ rests (drop at s)
+
+module _ (s : List ℕ) where
+  pub reached-none : Reached s 0 0
+  reached-none = record { within = omega arith; passed = omega arith; left = refl }
+
+  module _ (at a : ℕ) (r : Reached s at a) where
+    -- how many actions are left
+    left-count : length (rests s) ≡ a + length (rests (drop at s))
+    left-count = omega (arith, ap length (r .left), length-drop a (rests s), r .passed)
+
+    pub reached-all : length s ≤ at → length (rests s) ≡ a
+    reached-all h =
+        let none : drop at s ≡ [] = let e : at ≡ length s = omega arith in rw (e, drop-length s) in
+        omega (arith, left-count, ap (λ q. length (rests q)) none, ap length rests-nil)
+
+    module _ (l : at < length s) where
+      here-cons : drop a (rests s) ≡ drop at s ∷ rests (drop (at + actionBytes (drop at s)) s)
+      here-cons = r .left ∙ rests-cons (drop at s) (omega (arith, length-drop at s)) ∙ ap (λ q. drop at s ∷ rests q) (drop-drop (actionBytes (drop at s)) at s)
+
+      pub reached-below : a < length (rests s)
+      reached-below = omega (arith, ap length here-cons, length-drop a (rests s))
+
+      pub reached-rest : getD (rests s) a [] ≡ drop at s
+      reached-rest =
+          ap (λ k. getD (rests s) k []) (omega arith) ∙ sym (getD-drop a (rests s) 0 []) ∙ ap (λ q. getD q 0 []) here-cons
+
+      pub reached-next : at + actionBytes (drop at s) ≤ length s → Reached s (at + actionBytes (drop at s)) (a + 1)
+      reached-next h =
+          record { within = h; passed = omega (arith, reached-below); left = sym (drop-drop 1 a (rests s)) ∙ ap (drop 1) here-cons }
+
+-- each action is read from its own rest
+pub action-read : (stretches : List (List ℕ)) (a : ℕ)
+    → getD (map actionIn stretches) a (record { preconditions = []; effects = [] }) ≡ actionIn (getD stretches a [])
+unfolding actionIn pairsAt forEach
+action-read stretches a = List·getD-map actionIn stretches a []
