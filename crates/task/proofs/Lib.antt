@@ -2,3 +2,4 @@
 pub mod ReadContents
 pub mod ReadChecks
 pub mod ReadActions
+pub mod ReadFile

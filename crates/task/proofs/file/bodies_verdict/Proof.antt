@@ -1,5 +1,6 @@
 use borrow.Author.Needs.{needs}
 use native.Mathlib.Omega.{arith}
+use Rattle.task.proofs.ReadFile.{few-variables, as-many-starts, lengths-wrong, size-wrong, sum-wrong, start-wrong, goal-wrong, actions-last}
 use Rattle.task.proofs.file.bodies_verdict.Statement.{statement}
 use Rattle.task.proofs.file.bodies_verdict.Tie as tie
 use Rattle.task.proofs.file.bodies_verdict.Reads as reads
@@ -15,37 +16,37 @@ lengths-fit-requires : tie.Need-lengths-fit-requires
 lengths-fit-requires c κs = search needs
 
 returns : tie.Need-returns
-returns c = search needs
+returns c = search (needs, lengths-wrong)
 
 first-size-at-fault-requires : tie.Need-first-size-at-fault-requires
 first-size-at-fault-requires c κs = search needs
 
 returns-2 : tie.Need-returns-2
-returns-2 c = search needs
+returns-2 c = search (needs, size-wrong)
 
 sum-of-sizes-requires : tie.Need-sum-of-sizes-requires
-sum-of-sizes-requires c κs = search needs
+sum-of-sizes-requires c κs = search (needs, few-variables)
 
 returns-3 : tie.Need-returns-3
-returns-3 c = search needs
+returns-3 c = search (needs, sum-wrong)
 
 first-start-at-fault-requires : tie.Need-first-start-at-fault-requires
-first-start-at-fault-requires c κs = search needs
+first-start-at-fault-requires c κs = search (needs, as-many-starts)
 
 returns-4 : tie.Need-returns-4
-returns-4 c = search needs
+returns-4 c = search (needs, start-wrong)
 
 first-pair-at-fault-requires : tie.Need-first-pair-at-fault-requires
 first-pair-at-fault-requires c κs = search needs
 
 returns-5 : tie.Need-returns-5
-returns-5 c = search needs
+returns-5 c = search (needs, goal-wrong)
 
 actions-verdict-requires : tie.Need-actions-verdict-requires
 actions-verdict-requires c κs = search needs
 
 returns-6 : tie.Need-returns-6
-returns-6 c = search needs
+returns-6 c = search (needs, actions-last)
 
 pub bodies-verdict-spec : {M : Type 1} → statement M
 bodies-verdict-spec =
