@@ -2,7 +2,7 @@
 pub mod Bools
 pub mod Counting
 pub mod Judging
-pub mod Searching
+pub mod Loops
 pub mod Valid
 pub mod Contents
 pub mod Actions

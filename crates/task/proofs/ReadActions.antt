@@ -22,7 +22,7 @@ use Rattle.rules.specs.declared.Verdict.{Verdict}
 use Rattle.rules.specs.declared.Verdict.the-variants.{Accepted, Refused}
 use Rattle.rules.proofs.Bools.{and-left, not-true, not-false}
 use Rattle.rules.proofs.Judging.{judge-refused, judge-passed, judge-nil}
-use Rattle.rules.proofs.Searching.{none-more, found-at, first-beyond}
+use Rattle.rules.proofs.Loops.{none-more, found-at, first-beyond}
 use Rattle.rules.proofs.Rests.{Reached, reached-all, reached-below, reached-rest, reached-next, action-read}
 use Rattle.task.specs.declared.actions.ActionRead.{ActionRead}
 use Rattle.task.specs.declared.actions.ActionRead.the-variants.{Whole, AtFault}

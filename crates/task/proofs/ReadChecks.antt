@@ -6,7 +6,6 @@ use mathlib.Core.Bool.{Bool, true, false, not, _&&_}
 use mathlib.Core.List.{List, []}
 use Prim.Native.Nat.{ℕ, zero, suc, _+_, _-_, _*_, _/_, _%_, _≤_, _<_}
 use native.Mathlib.Omega.{arith}
-use native.Mathlib.Numerals.{add-one}
 use borrow.Author.Tests.{eq-eqb, ne-eqb, le-leb, lt-leb, lt-ltb, le-ltb}
 use lib.Dec.{eqb, leb, ltb}
 use lib.ListN.{length}
@@ -64,17 +63,9 @@ module _ (sizes : List ℕ) (x v : ℕ) (e : v ≡ byte sizes x) where
   unfolding sizeAtFault
   many-values h = rw (← e, le-leb 1 v h) (ltb-not maxDomain v)
 
-  pub sum-more : (sum : ℕ) → sum ≡ sumTo x (d (sized sizes)) → sum + v ≡ sumTo (x + 1) (d (sized sizes))
-  unfolding sumTo
-  sum-more sum h = rw (h, e, add-one)
-
   pub start-outside : (start : List ℕ) (w : ℕ) → w ≡ byte start x → leb v w ≡ startAtFault (taskIn sizes start [] []) x
   unfolding startAtFault
   start-outside start w f = rw (← e, ← f) (leb-not v w)
-
-pub sum-none : (sizes : List ℕ) → 0 ≡ sumTo 0 (d (sized sizes))
-unfolding sumTo
-sum-none sizes = refl
 
 pub sum-all : (sizes : List ℕ) (x sum : ℕ) → sum ≡ sumTo x (d (sized sizes)) → x ≤ length sizes → length sizes ≤ x → sum ≡ S (sized sizes)
 sum-all sizes x sum h l k = let e : x ≡ length sizes = omega arith in h ∙ ap (λ m. sumTo m (d (sized sizes))) e

@@ -20,7 +20,7 @@ use Rattle.rules.specs.declared.Verdict.{Verdict}
 use Rattle.rules.specs.declared.Verdict.the-variants.{Accepted, Refused}
 use Rattle.rules.proofs.Judging.{judge-refused, judge-passed, judge-nil}
 use Rattle.rules.proofs.Contents.{accepted-contents, body-within}
-use Rattle.rules.proofs.Searching.{found-at, judge-found, judge-none}
+use Rattle.rules.proofs.Loops.{found-at, judge-found, judge-none}
 use Rattle.task.specs.Stretches.{Stretch, startAsked}
 
 pub due-later : (file : List ℕ) (row a b : ℕ) → (row ≡ 0 → ⊥)

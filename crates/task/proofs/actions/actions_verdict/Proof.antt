@@ -5,7 +5,7 @@ use Prim.Native.Nat.{_≤_, _-_}
 use lib.ListN.{length}
 use Rattle.rules.specs.Counting.{first}
 use Rattle.rules.specs.Limits.{maxActions}
-use Rattle.rules.proofs.Searching.{none-yet}
+use Rattle.rules.proofs.Loops.{none-yet}
 use Rattle.rules.proofs.Rests.{Reached, reached-none}
 use Rattle.task.proofs.ReadActions.{atFault, action-fits, action-less, action-passed, action-fine, actions-over, actions-wrong, actions-accepted}
 use Rattle.task.proofs.actions.actions_verdict.Statement.{statement}

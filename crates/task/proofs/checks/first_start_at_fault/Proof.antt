@@ -4,7 +4,7 @@ use mathlib.Core.Path.{_≡_}
 use Prim.Native.Nat.{_≤_, _-_}
 use lib.ListN.{length}
 use Rattle.rules.specs.Counting.{first}
-use Rattle.rules.proofs.Searching.{none-yet, none-more, found-at, none-at-all}
+use Rattle.rules.proofs.Loops.{none-yet, none-more, found-at, none-at-all}
 use Rattle.rules.specs.Task.{startAtFault}
 use mathlib.Core.List.{[]}
 use Rattle.task.specs.Bodies.{taskIn}

@@ -6,8 +6,8 @@ use lib.ListN.{length}
 use Rattle.rules.specs.Counting.{sumTo}
 use Rattle.rules.specs.Task.{d}
 use Rattle.task.specs.Bodies.{sized}
-use Rattle.task.proofs.ReadChecks.{sum-none, sum-all}
-use Rattle.task.proofs.ReadChecks.{sum-more}
+use Rattle.task.proofs.ReadChecks.{sum-all}
+use Rattle.rules.proofs.Loops.{sum-yet, sum-more}
 use Rattle.task.proofs.checks.sum_of_sizes.Statement.{statement}
 use Rattle.task.proofs.checks.sum_of_sizes.Tie as tie
 use Rattle.task.proofs.checks.sum_of_sizes.Reads as reads
@@ -21,7 +21,7 @@ abbrev μ-loop : tie.MeasureT-loop
 μ-loop sizes x₀ sum₀ x sum = length sizes - x
 
 loop-holds : tie.Need-loop-holds Inv-loop μ-loop
-loop-holds c = search (needs, sum-none)
+loop-holds c = search (needs, sum-yet)
 
 byte-at-requires : tie.Need-byte-at-requires Inv-loop μ-loop
 byte-at-requires c κs = search needs

@@ -6,7 +6,7 @@ use lib.ListN.{length}
 use Rattle.rules.specs.Counting.{first}
 use Rattle.rules.specs.Limits.{contentsBytes, contentsRows, maxFile}
 use Rattle.rules.specs.File.{rowAtFault}
-use Rattle.rules.proofs.Searching.{none-yet, none-more}
+use Rattle.rules.proofs.Loops.{none-yet, none-more}
 use Rattle.task.proofs.ReadContents.{file-short, file-long, row-refused, rows-accepted}
 use Rattle.task.proofs.contents.contents_verdict.Statement.{statement}
 use Rattle.task.proofs.contents.contents_verdict.Tie as tie

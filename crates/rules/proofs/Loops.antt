@@ -1,4 +1,4 @@
--- Laws of a search that goes up from 0 and stops at the first number of which something holds; b is what a test said of a number.
+-- Laws of loops that go up from 0: a search that stops at the first number of which something holds, and a sum that grows.
 -- Assumes nothing.
 use mathlib.Core.Path.{_≡_, refl, sym, ap, _∙_}
 use mathlib.Core.Logic.{⊎-elim}
@@ -8,13 +8,15 @@ use Prim.Native.Nat.{ℕ, _+_, _≤_, _<_}
 use native.Mathlib.Omega.{arith}
 use native.Mathlib.Numerals.{add-one}
 use borrow.Author.Tests.{eq-eqb, ne-eqb}
-use Rattle.rules.specs.Counting.{first}
+use Rattle.rules.specs.Counting.{first, sumTo}
 use Rattle.rules.specs.Answers.{Rule, noneAtFault, judge}
 use Rattle.rules.specs.declared.Refusal.{Refusal}
 use Rattle.rules.specs.declared.Verdict.the-variants.{Refused}
 use Rattle.rules.proofs.Bools.{clash, below-or, below-suc}
 use Rattle.rules.proofs.Counting.{first-before, first-at, first-is, first-none}
 use Rattle.rules.proofs.Judging.{judge-refused, judge-passed}
+
+-- ---- a search; b is what a test said of a number
 
 module _ (p : ℕ → Bool) where
   pub none-yet : first 0 p ≡ 0
@@ -39,6 +41,17 @@ module _ (p : ℕ → Bool) where
   -- none below m, where the search has come
   pub none-at-all : (m i : ℕ) → first i p ≡ i → i ≤ m → m ≤ i → i ≡ first m p
   none-at-all m i h l k = let e : i ≡ m = omega arith in sym h ∙ ap (λ k. first k p) e
+
+-- ---- a sum
+
+module _ (w : ℕ → ℕ) where
+  pub sum-yet : 0 ≡ sumTo 0 w
+  unfolding sumTo
+  sum-yet = refl
+
+  pub sum-more : (m sum v : ℕ) → sum ≡ sumTo m w → v ≡ w m → sum + v ≡ sumTo (m + 1) w
+  unfolding sumTo
+  sum-more m sum v h e = rw (h, e, add-one)
 
 -- ---- a rule that none of the numbers below m is at fault
 
