@@ -59,8 +59,8 @@ module _ (s : List ℕ) where
         omega (arith, left-count, ap (λ q. length (rests q)) none, ap length rests-nil)
 
     module _ (l : at < length s) where
-      here-cons : drop a (rests s) ≡ drop at s ∷ rests (drop (at + actionBytes (drop at s)) s)
-      here-cons = r .left ∙ rests-cons (drop at s) (omega (arith, length-drop at s)) ∙ ap (λ q. drop at s ∷ rests q) (drop-drop (actionBytes (drop at s)) at s)
+      here-cons : drop a (rests s) ≡ drop at s ∷ rests (drop (actionBytes (drop at s)) (drop at s))
+      here-cons = r .left ∙ rests-cons (drop at s) (omega (arith, length-drop at s))
 
       pub reached-below : a < length (rests s)
       reached-below = omega (arith, ap length here-cons, length-drop a (rests s))
@@ -69,9 +69,13 @@ module _ (s : List ℕ) where
       reached-rest =
           ap (λ k. getD (rests s) k []) (omega arith) ∙ sym (getD-drop a (rests s) 0 []) ∙ ap (λ q. getD q 0 []) here-cons
 
-      pub reached-next : at + actionBytes (drop at s) ≤ length s → Reached s (at + actionBytes (drop at s)) (a + 1)
-      reached-next h =
-          record { within = h; passed = omega (arith, reached-below); left = sym (drop-drop 1 a (rests s)) ∙ ap (drop 1) here-cons }
+      pub reached-next : (next : ℕ) → next ≤ length s → drop next s ≡ drop (actionBytes (drop at s)) (drop at s) → Reached s next (a + 1)
+      reached-next next h e =
+          record {
+            within = h;
+            passed = omega (arith, reached-below);
+            left = sym (drop-drop 1 a (rests s)) ∙ ap (drop 1) here-cons ∙ ap rests (sym e);
+          }
 
 -- each action is read from its own rest
 pub action-read : (stretches : List (List ℕ)) (a : ℕ)
@@ -81,7 +85,7 @@ action-read stretches a = List·getD-map actionIn stretches a []
 
 -- ---- rests by number; from the last on there is none, which is the empty rest
 
-drop-past : (k : ℕ) (s : List ℕ) → length s ≤ k → drop k s ≡ []
+pub drop-past : (k : ℕ) (s : List ℕ) → length s ≤ k → drop k s ≡ []
 drop-past zero [] h = refl
 drop-past zero (p ∷ s) h = absurd (omega arith)
 drop-past (suc k) [] h = refl

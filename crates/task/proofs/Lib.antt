@@ -3,3 +3,4 @@ pub mod ReadContents
 pub mod ReadChecks
 pub mod ReadActions
 pub mod ReadFile
+pub mod Filling

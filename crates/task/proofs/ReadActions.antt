@@ -11,7 +11,7 @@ use mir.Syntax.{w64}
 use mir.Val.{Fits}
 use lib.Dec.{leb, eqb}
 use lib.ListN.{length, getD, take, drop, length-drop, length-map}
-use lib.Seq.{take-all}
+use lib.Seq.{take-all, drop-drop}
 use Rattle.rules.specs.Counting.{first}
 use Rattle.rules.specs.Limits.{maxActions, pairBytes, countBytes}
 use Rattle.rules.specs.Answers.{judge}
@@ -109,7 +109,8 @@ module _ (sizes s : List ℕ) where
           action-less = omega (arith, whole .1)
 
           pub action-passed : Reached s (at + bytes) (a + 1)
-          action-passed = rw (whole .1) (reached-next s at a reached l (omega (arith, action-within, whole .1)))
+          action-passed =
+              reached-next s at a reached l (at + bytes) action-within (sym (drop-drop bytes at s) ∙ ap (λ k. drop k (drop at s)) (whole .1))
 
           pub action-fine : first a atFault ≡ a → first (a + 1) atFault ≡ a + 1
           action-fine n = none-more atFault a (not inOrder) n (sym fault-here) (ap not (whole .0))

@@ -1,3 +1,4 @@
 -- What the reader's contracts cite beside the rules.
 pub mod Stretches
 pub mod Bodies
+pub mod Index

@@ -4,3 +4,4 @@ pub mod contents;
 pub mod checks;
 pub mod actions;
 pub mod file;
+pub mod index;
