@@ -3,4 +3,5 @@ pub mod ReadContents
 pub mod ReadChecks
 pub mod ReadActions
 pub mod ReadFile
-pub mod Filling
+pub mod Rows
+pub mod Asking

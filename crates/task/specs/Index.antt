@@ -7,7 +7,7 @@ use lib.ListN.{length, getD}
 use Rattle.rules.specs.Counting.{sumTo, forEach}
 use Rattle.rules.specs.Limits.{maxVariables, maxActions}
 use Rattle.rules.specs.Counts.{pairsBelow}
-use Rattle.rules.specs.Task.{A}
+use Rattle.rules.specs.Task.{Task, d, A, action}
 use Rattle.rules.specs.File.{byte, bodyStart, body, rests, taskOf, fileVerdict}
 use Rattle.rules.specs.declared.Verdict.the-variants.{Accepted}
 
@@ -55,6 +55,24 @@ unfoldable pub indexOf : List ℕ → List ℕ
 indexOf file =
     forEach variableRows (variableRow (body file 0))
     ++ (forEach actionRows (actionRow (bodyStart file 3) (body file 3)) ++ (A (taskOf file) ∷ []))
+
+-- the place in the file of action a's first byte; from A on the file's end
+unfoldable pub actionPlace : List ℕ → ℕ → ℕ
+actionPlace file a = bodyStart file 3 + (length (body file 3) - length (restAt (body file 3) a))
+
+-- ---- what else stands in the rows, by the task's letters
+
+-- the pairs of values of one variable, of the variables before x together
+unfoldable pub valuePairsBefore : Task → ℕ → ℕ
+valuePairsBefore T x = sumTo x (λ y. pairsBelow (d T y))
+
+-- the preconditions of the actions before a together
+unfoldable pub preconditionsBefore : Task → ℕ → ℕ
+preconditionsBefore T a = sumTo a (λ b. length (action T b .preconditions))
+
+-- their effects
+unfoldable pub effectsBefore : Task → ℕ → ℕ
+effectsBefore T a = sumTo a (λ b. length (action T b .effects))
 
 -- an accepted file and its index
 pub record Indexed (file index : List ℕ) : Type 0 where

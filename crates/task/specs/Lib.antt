@@ -2,3 +2,4 @@
 pub mod Stretches
 pub mod Bodies
 pub mod Index
+pub mod Numbers

@@ -1,17 +1,12 @@
-// The index of an accepted file, filled once a call into lent memory.
-use crate::contents::{byte_at, row_body, word_at};
-use crate::limits::{COUNT_BYTES, MAX_ACTIONS, MAX_VARIABLES, PAIR_BYTES, ROW_BYTES};
+// The index of an accepted file: where its numbers stand, and what they say. Each function here is for an accepted file with its index only.
+use crate::limits::{MAX_ACTIONS, MAX_VARIABLES};
 ghost use mathlib.Core.Path.{_≡_};
-ghost use mathlib.Core.List.{[], _∷_, _++_};
-ghost use Prim.Native.Nat.{_+_, _*_, _<_, _≤_};
-ghost use lib.ListN.{length, take, drop};
-ghost use lib.Seq.{sets};
-ghost use Rattle.rules.specs.Counting.{forEach};
-ghost use Rattle.rules.specs.Limits.{maxFile};
-ghost use Rattle.rules.specs.Counts.{pairsBelow};
-ghost use Rattle.rules.specs.File.{byte, actionBytes, rests, fileVerdict};
-ghost use Rattle.rules.specs.declared.Verdict.the-variants.{Accepted};
-ghost use Rattle.task.specs.Index.{variableRow, actionRow, variableRows, actionRows, variableWidth, actionWidth, actionsAt, indexLength, indexOf};
+ghost use Prim.Native.Nat.{_≤_};
+ghost use Rattle.rules.specs.Limits.{maxVariables, maxActions};
+ghost use Rattle.rules.specs.Task.{off, S, A as actionCount};
+ghost use Rattle.rules.specs.Numbering.{stride};
+ghost use Rattle.rules.specs.File.{taskOf};
+ghost use Rattle.task.specs.Index.{Indexed, actionPlace, valuePairsBefore, preconditionsBefore, effectsBefore};
 
 // How many numbers a row has, where the rows of the actions begin, where their count stands, and the whole length.
 pub const VARIABLE_WIDTH: usize = 2;
@@ -20,132 +15,66 @@ pub const ACTIONS_AT: usize = VARIABLE_WIDTH * (MAX_VARIABLES + 1);
 pub const COUNT_AT: usize = ACTIONS_AT + ACTION_WIDTH * (MAX_ACTIONS + 1);
 pub const INDEX_LENGTH: usize = COUNT_AT + 1;
 
-// The byte at place i, 0 past the end.
-fn byte_if_any(s: &[u8], i: usize) -> usize
-    ensures { λ r. ⌜ (r ≡ byte (now (s .entry)) i) × (r ≤ 255) ⌝ }
+// off(x), also for x = n.
+pub fn offset(file: &[u8], index: &[usize], x: usize) -> usize
+    requires { ⌜ Indexed (now file) (now index) × (x ≤ maxVariables) ⌝ }
+    ensures { λ r. ⌜ r ≡ off (taskOf (now (file .entry))) x ⌝ }
 {
-    if s.len() <= i {
-        return 0;
-    }
-    byte_at(s, i)
+    index[VARIABLE_WIDTH * x]
 }
 
-// How many pairs of different values there are among m.
-fn pairs_below(m: usize) -> usize
-    requires { ⌜ m ≤ 255 ⌝ }
-    ensures { λ r. ⌜ (r ≡ pairsBelow m) × (r ≤ 65025) ⌝ }
+// The pairs of values of one variable, of the variables before x together.
+pub fn value_pairs_before(file: &[u8], index: &[usize], x: usize) -> usize
+    requires { ⌜ Indexed (now file) (now index) × (x ≤ maxVariables) ⌝ }
+    ensures { λ r. ⌜ r ≡ valuePairsBefore (taskOf (now (file .entry))) x ⌝ }
 {
-    if m == 0 {
-        return 0;
-    }
-    m * (m - 1) / 2
+    index[VARIABLE_WIDTH * x + 1]
 }
 
-fn put_variable(out: &mut [usize], at: usize, values: usize, pairs: usize)
-    requires { ⌜ at + variableWidth ≤ length (now out) ⌝ }
-    ensures { λ _. ⌜ now (out .exit) ≡ sets (now (out .entry)) at (values ∷ pairs ∷ []) ⌝ }
+// S.
+pub fn values(file: &[u8], index: &[usize]) -> usize
+    requires { ⌜ Indexed (now file) (now index) ⌝ }
+    ensures { λ r. ⌜ r ≡ S (taskOf (now (file .entry))) ⌝ }
 {
-    out[at] = values;
-    out[at + 1] = pairs;
+    index[VARIABLE_WIDTH * MAX_VARIABLES]
 }
 
-fn put_action(out: &mut [usize], at: usize, place: usize, preconditions: usize, effects: usize)
-    requires { ⌜ at + actionWidth ≤ length (now out) ⌝ }
-    ensures { λ _. ⌜ now (out .exit) ≡ sets (now (out .entry)) at (place ∷ preconditions ∷ effects ∷ []) ⌝ }
+// A.
+pub fn actions(file: &[u8], index: &[usize]) -> usize
+    requires { ⌜ Indexed (now file) (now index) ⌝ }
+    ensures { λ r. ⌜ r ≡ actionCount (taskOf (now (file .entry))) ⌝ }
 {
-    out[at] = place;
-    out[at + 1] = preconditions;
-    out[at + 2] = effects;
+    index[COUNT_AT]
 }
 
-// The rows of the variables.
-fn fill_variables(sizes: &[u8], out: &mut [usize])
-    requires { ⌜ length (now out) ≡ variableWidth * variableRows ⌝ }
-    ensures { λ _. ⌜ now (out .exit) ≡ forEach variableRows (variableRow (now (sizes .entry))) ⌝ }
+// How far apart the numbers of one thing are at two steps in a row: S + A.
+pub fn step_width(file: &[u8], index: &[usize]) -> usize
+    requires { ⌜ Indexed (now file) (now index) ⌝ }
+    ensures { λ r. ⌜ r ≡ stride (taskOf (now (file .entry))) ⌝ }
 {
-    let mut x = 0;
-    let mut values = 0;
-    let mut pairs = 0;
-    while x <= MAX_VARIABLES {
-        put_variable(out, VARIABLE_WIDTH * x, values, pairs);
-        let size = byte_if_any(sizes, x);
-        values += size;
-        pairs += pairs_below(size);
-        x += 1;
-    }
+    values(file, index) + actions(file, index)
 }
 
-// The place behind the action that begins at a place.
-fn next_place(actions: &[u8], at: usize) -> usize
-    requires { ⌜ at ≤ length (now actions) ⌝ }
-    ensures {
-        λ r. ⌜ (r ≤ length (now (actions .entry)))
-        × (drop r (now (actions .entry)) ≡ drop (actionBytes (drop at (now (actions .entry)))) (drop at (now (actions .entry)))) ⌝
-    }
+// The place in the file of action a's first byte; for a = A the file's end.
+pub fn action_place(file: &[u8], index: &[usize], a: usize) -> usize
+    requires { ⌜ Indexed (now file) (now index) × (a ≤ maxActions) ⌝ }
+    ensures { λ r. ⌜ r ≡ actionPlace (now (file .entry)) a ⌝ }
 {
-    let bytes = COUNT_BYTES + PAIR_BYTES * (byte_if_any(actions, at) + byte_if_any(actions, at + 1));
-    if actions.len() - at < bytes {
-        return actions.len();
-    }
-    at + bytes
+    index[ACTIONS_AT + ACTION_WIDTH * a]
 }
 
-// A, the number of actions.
-fn count_actions(actions: &[u8]) -> usize
-    ensures { λ r. ⌜ r ≡ length (rests (now (actions .entry))) ⌝ }
+// The preconditions of the actions before a together.
+pub fn preconditions_before(file: &[u8], index: &[usize], a: usize) -> usize
+    requires { ⌜ Indexed (now file) (now index) × (a ≤ maxActions) ⌝ }
+    ensures { λ r. ⌜ r ≡ preconditionsBefore (taskOf (now (file .entry))) a ⌝ }
 {
-    let mut at = 0;
-    let mut a = 0;
-    while at < actions.len() {
-        at = next_place(actions, at);
-        a += 1;
-    }
-    a
+    index[ACTIONS_AT + ACTION_WIDTH * a + 1]
 }
 
-// The rows of the actions; the action body begins at place `start` of the file.
-fn fill_actions(start: usize, actions: &[u8], out: &mut [usize])
-    requires { ⌜ (start + length (now actions) ≤ maxFile) × (length (now out) ≡ actionWidth * actionRows) ⌝ }
-    ensures { λ _. ⌜ now (out .exit) ≡ forEach actionRows (actionRow start (now (actions .entry))) ⌝ }
+// The effects of the actions before a together.
+pub fn effects_before(file: &[u8], index: &[usize], a: usize) -> usize
+    requires { ⌜ Indexed (now file) (now index) × (a ≤ maxActions) ⌝ }
+    ensures { λ r. ⌜ r ≡ effectsBefore (taskOf (now (file .entry))) a ⌝ }
 {
-    let mut a = 0;
-    let mut at = 0;
-    let mut preconditions = 0;
-    let mut effects = 0;
-    while a <= MAX_ACTIONS {
-        put_action(out, ACTION_WIDTH * a, start + at, preconditions, effects);
-        preconditions += byte_if_any(actions, at);
-        effects += byte_if_any(actions, at + 1);
-        at = next_place(actions, at);
-        a += 1;
-    }
-}
-
-fn put_variables(sizes: &[u8], index: &mut [usize])
-    requires { ⌜ length (now index) ≡ indexLength ⌝ }
-    ensures { λ _. ⌜ now (index .exit) ≡ forEach variableRows (variableRow (now (sizes .entry))) ++ drop actionsAt (now (index .entry)) ⌝ }
-{
-    fill_variables(sizes, &mut index[..ACTIONS_AT]);
-}
-
-fn put_actions(start: usize, actions: &[u8], index: &mut [usize])
-    requires { ⌜ (start + length (now actions) ≤ maxFile) × (length (now index) ≡ indexLength) ⌝ }
-    ensures {
-        λ _. ⌜ now (index .exit)
-        ≡ take actionsAt (now (index .entry))
-        ++ (forEach actionRows (actionRow start (now (actions .entry))) ++ drop (actionWidth * actionRows) (drop actionsAt (now (index .entry)))) ⌝
-    }
-{
-    fill_actions(start, actions, &mut index[ACTIONS_AT..COUNT_AT]);
-}
-
-// The index of an accepted file.
-pub fn fill_index(file: &[u8], index: &mut [usize])
-    requires { ⌜ (fileVerdict (now file) ≡ Accepted) × (length (now index) ≡ indexLength) ⌝ }
-    ensures { λ _. ⌜ now (index .exit) ≡ indexOf (now (file .entry)) ⌝ }
-{
-    let actions = row_body(file, 3);
-    put_variables(row_body(file, 0), index);
-    put_actions(word_at(file, ROW_BYTES * 3), actions, index);
-    index[COUNT_AT] = count_actions(actions);
+    index[ACTIONS_AT + ACTION_WIDTH * a + 2]
 }

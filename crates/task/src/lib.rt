@@ -5,3 +5,5 @@ pub mod checks;
 pub mod actions;
 pub mod file;
 pub mod index;
+pub mod filling;
+pub mod numbering;
