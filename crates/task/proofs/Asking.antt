@@ -154,27 +154,32 @@ module _ (file index : List ℕ) (ix : Indexed file index) where
   pub stride-few : (w : ℕ) → w ≡ stride T → w ≤ maxValues + maxActions
   stride-few w e = omega (arith, few .values-few, few .actions-few)
 
-  module _ (s x v w o r : ℕ) (ew : w ≡ stride T) (eo : o ≡ off T x) (hx : x < n T) (hv : v < d T x) where
+  pub variable-few : (x : ℕ) → x < n T → x ≤ maxVariables
+  variable-few x h = omega (arith, few .variables-few)
+
+  module _ (x v o : ℕ) (eo : o ≡ off T x) (hx : x < n T) (hv : v < d T x) where
     pub value-fits : Fits w64 (o + v)
     value-fits = record { fits = omega (arith, value-place T x v hx hv, few .values-few) }
 
-    pub value-within : o + v ≤ w
-    value-within = omega (arith, value-place T x v hx hv)
+    module _ (w : ℕ) (ew : w ≡ stride T) where
+      pub value-within : o + v ≤ w
+      value-within = omega (arith, value-place T x v hx hv)
 
-    pub value-numbered : r ≡ s * w + (o + v) + 1 → r ≡ valueNumber (atAnyHorizon file) s x v
-    unfolding valueNumber
-    value-numbered e = e ∙ rw (ew, eo) (omega arith)
+      pub value-numbered : (s r : ℕ) → r ≡ s * w + (o + v) + 1 → r ≡ valueNumber (atAnyHorizon file) s x v
+      unfolding valueNumber
+      value-numbered s r e = e ∙ rw (ew, eo) (omega arith)
 
-  module _ (s a w S₁ r : ℕ) (ew : w ≡ stride T) (eS : S₁ ≡ S T) (ha : a < A T) where
-    pub action-fits : Fits w64 (S₁ + a)
+  module _ (a o : ℕ) (eo : o ≡ S T) (ha : a < A T) where
+    pub action-fits : Fits w64 (o + a)
     action-fits = record { fits = omega (arith, few .values-few, few .actions-few) }
 
-    pub action-within : S₁ + a ≤ w
-    action-within = omega arith
+    module _ (w : ℕ) (ew : w ≡ stride T) where
+      pub action-within : o + a ≤ w
+      action-within = omega arith
 
-    pub action-numbered : r ≡ s * w + (S₁ + a) + 1 → r ≡ actionNumber (atAnyHorizon file) s a
-    unfolding actionNumber
-    action-numbered e = e ∙ rw (ew, eS) (omega arith)
+      pub action-numbered : (s r : ℕ) → r ≡ s * w + (o + a) + 1 → r ≡ actionNumber (atAnyHorizon file) s a
+      unfolding actionNumber
+      action-numbered s r e = e ∙ rw (ew, eo) (omega arith)
 
 -- ---- a number in a step of a width, from 1
 

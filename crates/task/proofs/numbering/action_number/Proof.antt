@@ -1,5 +1,6 @@
 use borrow.Author.Needs.{needs}
 use native.Mathlib.Omega.{arith}
+use Rattle.task.proofs.Asking.{stride-few, action-fits, action-within, action-numbered}
 use Rattle.task.proofs.numbering.action_number.Statement.{statement}
 use Rattle.task.proofs.numbering.action_number.Tie as tie
 use Rattle.task.proofs.numbering.action_number.Reads as reads
@@ -15,13 +16,13 @@ values-requires : tie.Need-values-requires
 values-requires c κs = search needs
 
 add-numbered : tie.Need-add-numbered
-add-numbered c = search needs
+add-numbered c = search (needs, action-fits)
 
 numbered-requires : tie.Need-numbered-requires
-numbered-requires c κs = search needs
+numbered-requires c κs = search (needs, stride-few, action-within)
 
 returns : tie.Need-returns
-returns c = search needs
+returns c = search (needs, action-numbered)
 
 pub action-number-spec : {M : Type 1} → statement M
 action-number-spec =
