@@ -29,22 +29,8 @@ use Rattle.rules.proofs.Pairs.{length-pairsAt, pair-at}
 use Rattle.task.specs.Index.{restAt, variableRow, actionRow, variableRows, actionRows, variableWidth, actionWidth, actionsAt, countAt, indexLength, indexOf, actionPlace, valuePairsBefore, preconditionsBefore, effectsBefore, Indexed}
 use Rattle.task.specs.declared.numbering.NumberRead.the-variants.{Number, Outside}
 use Rattle.task.specs.Numbers.{atAnyHorizon, numberRead}
+use Rattle.task.proofs.Bytes.{precondition-count, effect-count}
 use Rattle.task.proofs.Rows.{length-rows, wide-variable, wide-action}
-
--- ---- actions by their rests
-
-module _ (file : List ℕ) (a : ℕ) where
-  is-read : action (taskOf file) a ≡ actionIn (restAt (body file 3) a)
-  unfolding taskOf
-  is-read = action-read (rests (body file 3)) a
-
-  precondition-count : length (action (taskOf file) a .preconditions) ≡ byte (restAt (body file 3) a) 0
-  unfolding actionIn
-  precondition-count = ap (λ x. length (x .preconditions)) is-read ∙ length-pairsAt _ _ _
-
-  effect-count : length (action (taskOf file) a .effects) ≡ byte (restAt (body file 3) a) 1
-  unfolding actionIn
-  effect-count = ap (λ x. length (x .effects)) is-read ∙ length-pairsAt _ _ _
 
 -- a sum to which nothing more is added
 sum-flat : (w : ℕ → ℕ) (m k : ℕ) → m ≤ k → ((i : ℕ) → m ≤ i → w i ≡ 0) → sumTo k w ≡ sumTo m w

@@ -4,4 +4,5 @@ pub mod ReadChecks
 pub mod ReadActions
 pub mod ReadFile
 pub mod Rows
+pub mod Bytes
 pub mod Asking

@@ -11,9 +11,9 @@ use lib.Dec.{eqb, leb, ltb}
 use lib.ListN.{length, take, drop}
 use denote.Ref.{RefT, now}
 use Rattle.rules.specs.Counting.{first}
-use Rattle.rules.specs.Limits.{maxFile, contentsRows, contentsBytes, rowBytes}
+use Rattle.rules.specs.Limits.{maxFile, contentsRows, contentsBytes}
 use Rattle.rules.specs.Answers.{noneAtFault, judge}
-use Rattle.rules.specs.File.{word16, dueStart, bodyStart, bodyLength, body, rowAtFault, contentsRules, contentsVerdict, bodyAsked}
+use Rattle.rules.specs.File.{dueStart, bodyStart, bodyLength, body, rowAtFault, contentsRules, contentsVerdict, bodyAsked}
 use Rattle.rules.specs.declared.Refusal.{Refusal}
 use Rattle.rules.specs.declared.Refusal.the-variants.{FileLength, ContentsRow}
 use Rattle.rules.specs.declared.Verdict.{Verdict}
@@ -24,13 +24,13 @@ use Rattle.rules.proofs.Loops.{found-at, judge-found, judge-none}
 use Rattle.task.specs.Stretches.{Stretch, startAsked}
 
 pub due-later : (file : List ℕ) (row a b : ℕ) → (row ≡ 0 → ⊥)
-    → a ≡ word16 file (rowBytes * (row - 1)) → b ≡ word16 file (rowBytes * (row - 1) + 2) → a + b ≡ dueStart file row
+    → a ≡ bodyStart file (row - 1) → b ≡ bodyLength file (row - 1) → a + b ≡ dueStart file row
 due-later file zero a b h ea eb = absurd (h refl)
 due-later file (suc r) a b h ea eb = let e : suc r - 1 ≡ r = omega arith in rw (ea, eb, e)
 
 -- ---- a row; a is where it starts, b where it has to, e where the next would have to
 
-module _ (file : List ℕ) (row a b : ℕ) (is-start : a ≡ word16 file (rowBytes * row)) (is-due : b ≡ dueStart file row) where
+module _ (file : List ℕ) (row a b : ℕ) (is-start : a ≡ bodyStart file row) (is-due : b ≡ dueStart file row) where
   pub row-wrong-start : (a ≡ b → ⊥) → true ≡ rowAtFault file row
   unfolding rowAtFault
   row-wrong-start h = rw (← is-start, ← is-due, ne-eqb a b h)

@@ -11,13 +11,10 @@ use mir.Val.{Fits}
 use lib.ListN.{length, getD, set, take, drop, length-append, length-drop, length-map, List·getD-eq-default}
 use lib.Seq.{length-take-le, drop-cons, set-at, take-at, drop-at, sets, sets-eq, length-sets, take-append-seam, drop-append-add, drop-drop, drop-length, getD-drop}
 use Rattle.rules.specs.Counting.{sumTo, forEach}
-use Rattle.rules.specs.Limits.{maxFile, contentsBytes, maxVariables, maxActions, pairBytes, countBytes}
+use Rattle.rules.specs.Limits.{maxVariables, maxActions, pairBytes, countBytes}
 use Rattle.rules.specs.Counts.{pairsBelow}
-use Rattle.rules.specs.File.{byte, bodyStart, body, actionBytes, actionIn, rests, contentsVerdict, taskOf, fileVerdict}
+use Rattle.rules.specs.File.{byte, bodyStart, body, actionBytes, actionIn, rests, taskOf}
 use Rattle.rules.proofs.Counting.{sumTo-const, sumTo-ext, length-forEach}
-use Rattle.rules.specs.declared.Verdict.the-variants.{Accepted}
-use Rattle.rules.proofs.Contents.{contents-accepted, length-body, body-within}
-use Rattle.rules.proofs.Files.{accepted-file}
 use Rattle.rules.proofs.Loops.{sum-yet, sum-more}
 use Rattle.rules.proofs.Rests.{rest-zero, rest-suc, drop-past, Reached, reached-next, reached-all}
 use Rattle.task.specs.Index.{restAt, variableRow, actionRow, variableRows, actionRows, variableWidth, actionWidth, actionsAt, countAt, indexLength, indexOf}
@@ -255,18 +252,6 @@ front-long l k m e h = sym (length-take-le k l (omega arith))
 
 pub long-front : (l : List ℕ) (k m : ℕ) → length l ≡ m → k ≤ m → length (take k l) ≡ k
 long-front l k m e h = length-take-le k l (omega arith)
-
-module _ (file : List ℕ) (ok : fileVerdict file ≡ Accepted) where
-  pub contents-ok : contentsVerdict file ≡ Accepted
-  contents-ok = contents-accepted file (accepted-file file ok .contents)
-
-  pub contents-long : contentsBytes ≤ length file
-  contents-long = accepted-file file ok .contents .long-enough
-
-  pub actions-room : (start : ℕ) (actions : List ℕ) → start ≡ bodyStart file 3 → actions ≡ body file 3 → start + length actions ≤ maxFile
-  actions-room start actions es ea =
-      let c = accepted-file file ok .contents in
-      omega (arith, es, ap length ea, length-body file c 3 (omega arith), body-within file c 3 (omega arith), c .short-enough)
 
 pub middle-filled : (l ys rows : List ℕ) → ys ≡ rows
     → take actionsAt l ++ (ys ++ drop (actionWidth * actionRows) (drop actionsAt l)) ≡ take actionsAt l ++ (rows ++ drop (actionWidth * actionRows) (drop actionsAt l))

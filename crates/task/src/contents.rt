@@ -10,7 +10,7 @@ ghost use mathlib.Core.List.{[]};
 ghost use Prim.Native.Nat.{_+_, _<_, _≤_};
 ghost use lib.ListN.{length};
 ghost use Rattle.rules.specs.Limits.{contentsBytes, contentsRows};
-ghost use Rattle.rules.specs.File.{byte, word16, bodyStart, dueStart, rowAtFault, contentsVerdict, body, bodyAsked};
+ghost use Rattle.rules.specs.File.{byte, word16, bodyStart, bodyLength, dueStart, rowAtFault, contentsVerdict, body, bodyAsked};
 ghost use Rattle.rules.specs.declared.Verdict.the-variants.{Accepted};
 ghost use Rattle.task.specs.Stretches.{Stretch, startAsked};
 
@@ -23,11 +23,27 @@ pub fn byte_at(s: &[u8], i: usize) -> usize
 }
 
 // Two bytes from place i on, low byte first.
-pub fn word_at(s: &[u8], i: usize) -> usize
+fn word_at(s: &[u8], i: usize) -> usize
     requires { ⌜ i + 1 < length (now s) ⌝ }
     ensures { λ r. ⌜ (r ≡ word16 (now (s .entry)) i) × (r ≤ 65535) ⌝ }
 {
     byte_at(s, i) + 256 * byte_at(s, i + 1)
+}
+
+// Where row `row` says that its body starts.
+pub fn body_start(file: &[u8], row: usize) -> usize
+    requires { ⌜ (contentsBytes ≤ length (now file)) × (row < contentsRows) ⌝ }
+    ensures { λ r. ⌜ (r ≡ bodyStart (now (file .entry)) row) × (r ≤ 65535) ⌝ }
+{
+    word_at(file, ROW_BYTES * row)
+}
+
+// How long row `row` says that its body is.
+pub fn body_length(file: &[u8], row: usize) -> usize
+    requires { ⌜ (contentsBytes ≤ length (now file)) × (row < contentsRows) ⌝ }
+    ensures { λ r. ⌜ (r ≡ bodyLength (now (file .entry)) row) × (r ≤ 65535) ⌝ }
+{
+    word_at(file, ROW_BYTES * row + 2)
 }
 
 // Where the body of row `row` has to start: the first at 16, each next where the last ended.
@@ -38,8 +54,7 @@ fn due_start(file: &[u8], row: usize) -> usize
     if row == 0 {
         return CONTENTS_BYTES;
     }
-    let before = ROW_BYTES * (row - 1);
-    word_at(file, before) + word_at(file, before + 2)
+    body_start(file, row - 1) + body_length(file, row - 1)
 }
 
 // Row `row` breaks the rule by its start, or is the last and has a wrong end.
@@ -47,7 +62,7 @@ fn row_at_fault(file: &[u8], row: usize) -> bool
     requires { ⌜ (contentsBytes ≤ length (now file)) × (row < contentsRows) ⌝ }
     ensures { λ r. ⌜ r ≡ rowAtFault (now (file .entry)) row ⌝ }
 {
-    if word_at(file, ROW_BYTES * row) != due_start(file, row) {
+    if body_start(file, row) != due_start(file, row) {
         return true;
     }
     if row + 1 < CONTENTS_ROWS {
@@ -81,9 +96,8 @@ pub fn row_body(file: &[u8], row: usize) -> &[u8]
     requires { ⌜ (contentsVerdict (now file) ≡ Accepted) × (row < contentsRows) ⌝ }
     ensures { λ r. ⌜ Stretch (file .entry) r (bodyStart (now (file .entry)) row) (body (now (file .entry)) row) ⌝ }
 {
-    let start = word_at(file, ROW_BYTES * row);
-    let bytes = word_at(file, ROW_BYTES * row + 2);
-    &file[start..start + bytes]
+    let start = body_start(file, row);
+    &file[start..start + body_length(file, row)]
 }
 
 // The empty part of a file, from its first byte on.

@@ -1,7 +1,7 @@
 // Filling the index of an accepted file, once a call, into lent memory.
-use crate::contents::{byte_at, row_body, word_at};
+use crate::contents::{body_start, byte_at, row_body};
 use crate::index::{ACTIONS_AT, ACTION_WIDTH, COUNT_AT, VARIABLE_WIDTH};
-use crate::limits::{COUNT_BYTES, MAX_ACTIONS, MAX_VARIABLES, PAIR_BYTES, ROW_BYTES};
+use crate::limits::{COUNT_BYTES, MAX_ACTIONS, MAX_VARIABLES, PAIR_BYTES};
 ghost use mathlib.Core.Path.{_≡_};
 ghost use mathlib.Core.List.{[], _∷_, _++_};
 ghost use Prim.Native.Nat.{_+_, _*_, _<_, _≤_};
@@ -140,6 +140,6 @@ pub fn fill_index(file: &[u8], index: &mut [usize])
 {
     let actions = row_body(file, 3);
     put_variables(row_body(file, 0), index);
-    put_actions(word_at(file, ROW_BYTES * 3), actions, index);
+    put_actions(body_start(file, 3), actions, index);
     index[COUNT_AT] = count_actions(actions);
 }

@@ -5,25 +5,23 @@ use Rattle.task.proofs.contents.due_start.Statement.{statement}
 use Rattle.task.proofs.contents.due_start.Tie as tie
 use Rattle.task.proofs.contents.due_start.Reads as reads
 use Rattle.task.proofs.contents.due_start.Lts as lts
-use Rattle.task.proofs.contents.word_at.Reads as word-at-reads
+use Rattle.task.proofs.contents.body_length.Reads as body-length-reads
+use Rattle.task.proofs.contents.body_start.Reads as body-start-reads
 
 returns : tie.Need-returns
 returns c = search needs
 
-sub-before : tie.Need-sub-before
-sub-before c = search needs
+sub-body-start : tie.Need-sub-body-start
+sub-body-start c = search needs
 
-mul-before : tie.Need-mul-before
-mul-before c = search needs
+body-start-requires : tie.Need-body-start-requires
+body-start-requires c κs = search needs
 
-word-at-requires : tie.Need-word-at-requires
-word-at-requires c κs = search needs
+sub-body-length : tie.Need-sub-body-length
+sub-body-length c = search needs
 
-add-word-at : tie.Need-add-word-at
-add-word-at c = search needs
-
-word-at-requires-2 : tie.Need-word-at-requires-2
-word-at-requires-2 c κs = search needs
+body-length-requires : tie.Need-body-length-requires
+body-length-requires c κs = search needs
 
 add-result : tie.Need-add-result
 add-result c = search needs
@@ -36,10 +34,9 @@ due-start-spec =
     tie.close
     (tie.spec
     returns
-    sub-before
-    mul-before
-    word-at-requires
-    add-word-at
-    word-at-requires-2
+    sub-body-start
+    body-start-requires
+    sub-body-length
+    body-length-requires
     add-result
     returns-2)

@@ -5,14 +5,11 @@ use Rattle.task.proofs.contents.row_at_fault.Statement.{statement}
 use Rattle.task.proofs.contents.row_at_fault.Tie as tie
 use Rattle.task.proofs.contents.row_at_fault.Reads as reads
 use Rattle.task.proofs.contents.row_at_fault.Lts as lts
+use Rattle.task.proofs.contents.body_start.Reads as body-start-reads
 use Rattle.task.proofs.contents.due_start.Reads as due-start-reads
-use Rattle.task.proofs.contents.word_at.Reads as word-at-reads
 
-mul-word-at : tie.Need-mul-word-at
-mul-word-at c = search needs
-
-word-at-requires : tie.Need-word-at-requires
-word-at-requires c κs = search needs
+body-start-requires : tie.Need-body-start-requires
+body-start-requires c κs = search needs
 
 due-start-requires : tie.Need-due-start-requires
 due-start-requires c κs = search needs
@@ -39,8 +36,7 @@ pub row-at-fault-spec : {M : Type 1} → statement M
 row-at-fault-spec =
     tie.close
     (tie.spec
-    mul-word-at
-    word-at-requires
+    body-start-requires
     due-start-requires
     returns
     add-if2

@@ -5,22 +5,14 @@ use Rattle.task.proofs.contents.row_body.Statement.{statement}
 use Rattle.task.proofs.contents.row_body.Tie as tie
 use Rattle.task.proofs.contents.row_body.Reads as reads
 use Rattle.task.proofs.contents.row_body.Lts as lts
-use Rattle.task.proofs.contents.word_at.Reads as word-at-reads
+use Rattle.task.proofs.contents.body_length.Reads as body-length-reads
+use Rattle.task.proofs.contents.body_start.Reads as body-start-reads
 
-mul-word-at : tie.Need-mul-word-at
-mul-word-at c = search needs
+body-start-requires : tie.Need-body-start-requires
+body-start-requires c κs = omega (arith, contents-there)
 
-word-at-requires : tie.Need-word-at-requires
-word-at-requires c κs = omega (arith, contents-there)
-
-mul-word-at-2 : tie.Need-mul-word-at-2
-mul-word-at-2 c = search needs
-
-add-word-at : tie.Need-add-word-at
-add-word-at c = search needs
-
-word-at-requires-2 : tie.Need-word-at-requires-2
-word-at-requires-2 c κs = omega (arith, contents-there)
+body-length-requires : tie.Need-body-length-requires
+body-length-requires c κs = omega (arith, contents-there)
 
 add-result : tie.Need-add-result
 add-result c = search needs
@@ -41,11 +33,8 @@ pub row-body-spec : {M : Type 1} → statement M
 row-body-spec =
     tie.close
     (tie.spec
-    mul-word-at
-    word-at-requires
-    mul-word-at-2
-    add-word-at
-    word-at-requires-2
+    body-start-requires
+    body-length-requires
     add-result
     sub-result
     part-result-start

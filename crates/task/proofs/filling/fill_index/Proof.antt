@@ -1,13 +1,14 @@
 use borrow.Author.Needs.{needs}
 use native.Mathlib.Omega.{arith}
 use lib.ListN.{length-set}
-use Rattle.task.proofs.Rows.{contents-ok, contents-long, actions-room, index-filled}
+use Rattle.task.proofs.Bytes.{contents-ok, contents-long, actions-room}
+use Rattle.task.proofs.Rows.{index-filled}
 use Rattle.task.proofs.filling.fill_index.Statement.{statement}
 use Rattle.task.proofs.filling.fill_index.Tie as tie
 use Rattle.task.proofs.filling.fill_index.Reads as reads
 use Rattle.task.proofs.filling.fill_index.Lts as lts
+use Rattle.task.proofs.contents.body_start.Reads as body-start-reads
 use Rattle.task.proofs.contents.row_body.Reads as row-body-reads
-use Rattle.task.proofs.contents.word_at.Reads as word-at-reads
 use Rattle.task.proofs.filling.count_actions.Reads as count-actions-reads
 use Rattle.task.proofs.filling.put_actions.Reads as put-actions-reads
 use Rattle.task.proofs.filling.put_variables.Reads as put-variables-reads
@@ -21,11 +22,8 @@ row-body-requires-2 c κs = search (needs, contents-ok)
 put-variables-requires : tie.Need-put-variables-requires
 put-variables-requires c κs = search needs
 
-mul-word-at : tie.Need-mul-word-at
-mul-word-at c = search needs
-
-word-at-requires : tie.Need-word-at-requires
-word-at-requires c κs = omega (arith, contents-long)
+body-start-requires : tie.Need-body-start-requires
+body-start-requires c κs = omega (arith, contents-long)
 
 put-actions-requires : tie.Need-put-actions-requires
 put-actions-requires c κs = search (needs, actions-room)
@@ -49,8 +47,7 @@ fill-index-spec =
     row-body-requires
     row-body-requires-2
     put-variables-requires
-    mul-word-at
-    word-at-requires
+    body-start-requires
     put-actions-requires
     count-actions-requires
     slice-write-index
