@@ -143,6 +143,9 @@ module _ (file index : List ℕ) (ix : Indexed file index) where
   pub variable-few : (x : ℕ) → x < n T → x ≤ maxVariables
   variable-few x h = omega (arith, few .variables-few)
 
+  pub action-few : (a b : ℕ) → b ≡ a → a < A T → b ≤ maxActions
+  action-few a b e h = omega (arith, few .actions-few)
+
   module _ (x v o : ℕ) (eo : o ≡ off T x) (hx : x < n T) (hv : v < d T x) where
     pub value-fits : Fits w64 (o + v)
     value-fits = record { fits = omega (arith, value-place T x v hx hv, few .values-few) }
@@ -166,6 +169,9 @@ module _ (file index : List ℕ) (ix : Indexed file index) where
       pub action-numbered : (s r : ℕ) → r ≡ s * w + (o + a) + 1 → r ≡ actionNumber (atAnyHorizon file) s a
       unfolding actionNumber
       action-numbered s r e = e ∙ rw (ew, eo) (omega arith)
+
+pub place-of : (file : List ℕ) (a b p : ℕ) → b ≡ a → p ≡ actionPlace file b → p ≡ actionPlace file a
+place-of file a b p e h = h ∙ ap (actionPlace file) e
 
 -- ---- a number in a step of a width, from 1
 

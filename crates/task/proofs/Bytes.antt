@@ -104,27 +104,25 @@ module _ (file : List ℕ) (ok : fileVerdict file ≡ Accepted) where
   goals-asked k e = omega (arith, goal-count, length-body file contents 2 (omega arith))
 
   module _ (i s : ℕ) (h : i < length (T .goal)) (es : s ≡ bodyStart file 2) where
-    pub goal-there : s + pairBytes * i + 1 < length file
-    goal-there = omega (arith, goal-count, body-there 2 (pairBytes * i + 1) (omega arith) (omega (arith, goal-count)))
+    goal-in : pairBytes * i + 1 < length (body file 2)
+    goal-in = omega (arith, goal-count)
 
-    goal-byte : (j : ℕ) → j < pairBytes → byte (body file 2) (pairBytes * i + j) ≡ byte file (s + pairBytes * i + j)
-    goal-byte j l =
-        body-byte 2 (pairBytes * i + j) (omega arith) (omega (arith, goal-count)) ∙ ap (byte file) (omega arith)
+    pub goal-there : s + 0 + pairBytes * i + 1 < length file
+    goal-there = omega (arith, body-there 2 (pairBytes * i + 1) (omega arith) goal-in)
 
     goal-is : pair (T .goal) i ≡ record { variable = byte (body file 2) (0 + pairBytes * i); value = byte (body file 2) (0 + pairBytes * i + 1) }
     unfolding taskOf
     goal-is = pair-at (body file 2) 0 (length (body file 2) / pairBytes) i (omega (arith, goal-count))
 
-    pub goal-variable : (b : ℕ) → b ≡ byte file (s + pairBytes * i) → b ≡ pair (T .goal) i .variable
+    pub goal-variable : (b : ℕ) → b ≡ byte file (s + 0 + pairBytes * i) → b ≡ pair (T .goal) i .variable
     goal-variable b e =
-        e
-        ∙ ap (byte file) (omega arith)
-        ∙ sym (goal-byte 0 (omega arith))
-        ∙ ap (byte (body file 2)) (omega arith)
-        ∙ sym (ap (λ p. p .variable) goal-is)
+        e ∙ ap (byte file) (omega arith) ∙ sym (body-byte 2 (pairBytes * i) (omega arith) (omega (arith, goal-in)))
+        ∙ ap (byte (body file 2)) (omega arith) ∙ sym (ap (λ p. p .variable) goal-is)
 
-    pub goal-value : (b : ℕ) → b ≡ byte file (s + pairBytes * i + 1) → b ≡ pair (T .goal) i .value
-    goal-value b e = e ∙ sym (goal-byte 1 (omega arith)) ∙ ap (byte (body file 2)) (omega arith) ∙ sym (ap (λ p. p .value) goal-is)
+    pub goal-value : (b : ℕ) → b ≡ byte file (s + 0 + pairBytes * i + 1) → b ≡ pair (T .goal) i .value
+    goal-value b e =
+        e ∙ ap (byte file) (omega arith) ∙ sym (body-byte 2 (pairBytes * i + 1) (omega arith) goal-in)
+        ∙ ap (byte (body file 2)) (omega arith) ∙ sym (ap (λ p. p .value) goal-is)
 
   -- ---- actions; p is the place of action a
 
@@ -156,9 +154,81 @@ module _ (file : List ℕ) (ok : fileVerdict file ≡ Accepted) where
     pub counts-there : p + 1 < length file
     counts-there = rest-there 1 (omega (arith, all-there))
 
-    pub preconditions-asked : (b : ℕ) → b ≡ byte file p → b ≡ length (action T a .preconditions)
-    preconditions-asked b e =
-        e ∙ ap (byte file) (omega arith) ∙ sym (rest-byte 0 (omega (arith, all-there))) ∙ sym (precondition-count file a)
+    pub first-there : p + 0 < length file
+    first-there = omega (arith, counts-there)
+
+    pub preconditions-asked : (b : ℕ) → b ≡ byte file (p + 0) → b ≡ length (action T a .preconditions)
+    preconditions-asked b e = e ∙ sym (rest-byte 0 (omega (arith, all-there))) ∙ sym (precondition-count file a)
 
     pub effects-asked : (b : ℕ) → b ≡ byte file (p + 1) → b ≡ length (action T a .effects)
     effects-asked b e = e ∙ sym (rest-byte 1 (omega (arith, all-there))) ∙ sym (effect-count file a)
+
+    -- pair i of a list that stands at place o of the rest
+    module _ (o count i : ℕ) (within : o + pairBytes * count ≤ length rest) (l : i < count) where
+      listed-there : p + o + pairBytes * i + 1 < length file
+      listed-there = omega (arith, rest-there (o + pairBytes * i + 1) (omega arith))
+
+      listed-variable : (b : ℕ) → b ≡ byte file (p + o + pairBytes * i) → b ≡ pair (pairsAt rest o count) i .variable
+      listed-variable b e =
+          e
+          ∙ ap (byte file) (omega arith)
+          ∙ sym (rest-byte (o + pairBytes * i) (omega arith))
+          ∙ sym (ap (λ p. p .variable) (pair-at rest o count i l))
+
+      listed-value : (b : ℕ) → b ≡ byte file (p + o + pairBytes * i + 1) → b ≡ pair (pairsAt rest o count) i .value
+      listed-value b e =
+          e
+          ∙ ap (byte file) (omega arith)
+          ∙ sym (rest-byte (o + pairBytes * i + 1) (omega arith))
+          ∙ sym (ap (λ p. p .value) (pair-at rest o count i l))
+
+    -- the preconditions stand behind the counts, the effects behind the preconditions
+    preconditions-are : action T a .preconditions ≡ pairsAt rest countBytes (byte rest 0)
+    unfolding actionIn
+    preconditions-are = ap (λ x. x .preconditions) (is-read file a)
+
+    effects-are : action T a .effects ≡ pairsAt rest (countBytes + pairBytes * byte rest 0) (byte rest 1)
+    unfolding actionIn
+    effects-are = ap (λ x. x .effects) (is-read file a)
+
+    module _ (i : ℕ) (l : i < length (action T a .preconditions)) where
+      few-preconditions : countBytes + pairBytes * byte rest 0 ≤ length rest
+      few-preconditions = omega (arith, all-there)
+
+      in-preconditions : i < byte rest 0
+      in-preconditions = omega (arith, precondition-count file a)
+
+      pub precondition-there : p + countBytes + pairBytes * i + 1 < length file
+      precondition-there = listed-there countBytes (byte rest 0) i few-preconditions in-preconditions
+
+      pub precondition-variable : (b : ℕ) → b ≡ byte file (p + countBytes + pairBytes * i) → b ≡ pair (action T a .preconditions) i .variable
+      precondition-variable b e =
+          listed-variable countBytes (byte rest 0) i few-preconditions in-preconditions b e ∙ ap (λ ps. pair ps i .variable) (sym preconditions-are)
+
+      pub precondition-value : (b : ℕ) → b ≡ byte file (p + countBytes + pairBytes * i + 1) → b ≡ pair (action T a .preconditions) i .value
+      precondition-value b e =
+          listed-value countBytes (byte rest 0) i few-preconditions in-preconditions b e ∙ ap (λ ps. pair ps i .value) (sym preconditions-are)
+
+    module _ (i k : ℕ) (l : i < length (action T a .effects)) (ek : k ≡ byte file (p + 0)) where
+      before : k ≡ byte rest 0
+      before = ek ∙ sym (rest-byte 0 (omega (arith, all-there)))
+
+      few-effects : countBytes + pairBytes * k + pairBytes * byte rest 1 ≤ length rest
+      few-effects = omega (arith, all-there, before)
+
+      in-effects : i < byte rest 1
+      in-effects = omega (arith, effect-count file a)
+
+      effects-behind : action T a .effects ≡ pairsAt rest (countBytes + pairBytes * k) (byte rest 1)
+      effects-behind = rw before effects-are
+
+      pub effect-there : p + (countBytes + pairBytes * k) + pairBytes * i + 1 < length file
+      effect-there = listed-there (countBytes + pairBytes * k) (byte rest 1) i few-effects in-effects
+
+      pub effect-variable : (b : ℕ) → b ≡ byte file (p + (countBytes + pairBytes * k) + pairBytes * i) → b ≡ pair (action T a .effects) i .variable
+      effect-variable b e =
+          listed-variable (countBytes + pairBytes * k) (byte rest 1) i few-effects in-effects b e ∙ ap (λ ps. pair ps i .variable) (sym effects-behind)
+
+      pub effect-value : (b : ℕ) → b ≡ byte file (p + (countBytes + pairBytes * k) + pairBytes * i + 1) → b ≡ pair (action T a .effects) i .value
+      effect-value b e =
+          listed-value (countBytes + pairBytes * k) (byte rest 1) i few-effects in-effects b e ∙ ap (λ ps. pair ps i .value) (sym effects-behind)

@@ -7,3 +7,4 @@ pub mod file;
 pub mod index;
 pub mod filling;
 pub mod numbering;
+pub mod asked;
