@@ -6,3 +6,4 @@ pub mod ReadFile
 pub mod Rows
 pub mod Bytes
 pub mod Asking
+pub mod StartValues

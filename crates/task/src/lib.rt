@@ -8,3 +8,4 @@ pub mod index;
 pub mod filling;
 pub mod numbering;
 pub mod asked;
+pub mod state;
