@@ -14,3 +14,6 @@ pub mod Clauses
 pub mod Moves
 pub mod Pairing
 pub mod Schedules
+pub mod Plans
+pub mod Listed
+pub mod Table
