@@ -2,6 +2,7 @@
 pub mod Bools
 pub mod Counting
 pub mod Judging
+pub mod Bits
 pub mod Valid
 pub mod Contents
 pub mod Actions
