@@ -16,5 +16,8 @@ pub mod Moves
 pub mod Pairing
 pub mod Schedules
 pub mod Plans
+pub mod Endings
 pub mod Listed
 pub mod Table
+pub mod Demands
+pub mod Proved
