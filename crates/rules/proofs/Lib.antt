@@ -1,4 +1,4 @@
--- What is proved of the rules. Demands is the page to read; the rest is how.
+-- What is proved of the rules. Demands, Figures and Table are the pages to read; the rest is how.
 pub mod Bools
 pub mod Counting
 pub mod Judging
@@ -19,5 +19,6 @@ pub mod Plans
 pub mod Endings
 pub mod Listed
 pub mod Table
+pub mod Figures
 pub mod Demands
 pub mod Proved
