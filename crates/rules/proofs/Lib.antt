@@ -8,10 +8,12 @@ pub mod Contents
 pub mod Actions
 pub mod Files
 pub mod Numbering
+pub mod EachClause
 pub mod Counts
 pub mod Bounds
 pub mod LaidOut
 pub mod Clauses
+pub mod Within
 pub mod Moves
 pub mod Pairing
 pub mod Schedules
