@@ -24,3 +24,4 @@ pub mod Table
 pub mod Figures
 pub mod Demands
 pub mod Proved
+pub mod InRows

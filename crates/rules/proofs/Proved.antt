@@ -6,6 +6,7 @@ use mathlib.Core.List.{List, _∷_, [], _++_}
 use Prim.Native.Nat.{ℕ, suc, _-_, _≤_, _<_}
 use native.Mathlib.Omega.{arith}
 use lib.ListN.{length, getD, replicate, length-replicate, getD-replicate}
+use lib.Seq.{take-all}
 use Rattle.rules.specs.Task.{Task, Valid}
 use Rattle.rules.specs.Problem.{Problem, problem}
 use Rattle.rules.specs.Numbering.{N}
@@ -52,7 +53,8 @@ demand3 T valid k =
       to-schedule = λ bits b. record { entries = length-schedule T k (assigned bits); inOrder = out-carried T k _ (good bits b) };
       to-assignment = λ entries g. satisfying entries (carried-out T k entries (g .inOrder));
       there-and-back = back;
-      back-and-there = λ entries g. schedule-back T k fine entries (g .entries) (carried-out T k entries (g .inOrder));
+      back-and-there = λ entries g.
+          schedule-back T k fine entries (omega (arith, g .entries)) (carried-out T k entries (g .inOrder)) ∙ take-all k entries (omega (arith, g .entries));
       no-two = λ bits bits′ b b′ e. sym (back bits b) ∙ ap (assignmentOf P) e ∙ back bits′ b′;
       plan = (
         λ m.
