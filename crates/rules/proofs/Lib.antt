@@ -11,6 +11,7 @@ pub mod Numbering
 pub mod EachClause
 pub mod Counts
 pub mod Bounds
+pub mod Lowest
 pub mod LaidOut
 pub mod Clauses
 pub mod Within
