@@ -9,6 +9,8 @@ pub mod Actions
 pub mod Files
 pub mod Numbering
 pub mod Counts
+pub mod Places
+pub mod Pairs
 pub mod Bounds
 pub mod LaidOut
 pub mod Clauses
