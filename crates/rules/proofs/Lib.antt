@@ -11,6 +11,7 @@ pub mod Numbering
 pub mod Counts
 pub mod Places
 pub mod Pairs
+pub mod ByNumber
 pub mod Bounds
 pub mod LaidOut
 pub mod Clauses

@@ -1,15 +1,15 @@
 -- The pair behind a number: where the pair i < j below m stands among all such pairs, and that each number below their count has one pair.
 -- Assumes nothing.
-use mathlib.Core.Path.{_≡_, refl, sym, ap, _∙_}
-use mathlib.Core.List.{List, [], _∷_}
-use Prim.Native.Nat.{ℕ, suc, _+_, _-_, _*_, _≤_, _<_}
+use mathlib.Core.Path.{_≡_, sym, ap, _∙_}
+use mathlib.Core.List.{[], _∷_}
+use Prim.Native.Nat.{ℕ, suc, _+_, _-_, _≤_, _<_}
 use native.Mathlib.Omega.{arith}
 use lib.ListN.{getD}
 use Rattle.rules.specs.Counting.{sumTo, table, forPairs}
 use Rattle.rules.specs.Counts.{pairsBelow, pairsBefore}
 use Rattle.rules.proofs.Counting.{length-table, getD-table, Located, locate, same-part}
 use Rattle.rules.proofs.Counts.{pairs-before, pairs-all}
-use Rattle.rules.proofs.Places.{getD-each}
+use Rattle.rules.proofs.Places.{within-each, getD-each}
 
 -- i and j are the pair with the number r: it stands behind the pairs with a first number below i, and behind those of i with a second number below j
 pub record PairAt (m r i j : ℕ) : Type 0 where
@@ -58,6 +58,11 @@ pair-exists m r h =
 is-there : (m r i j : ℕ) → PairAt m r i j → r ≡ sumTo i (above m) + (j - suc i)
 is-there m r i j p =
     p .is ∙ ap (λ start. start + (j - suc i)) (sym (pairs-before m i (is-above m i j (p .rising) (p .below) .first-within)))
+
+pub pair-within : (m r i j : ℕ) → PairAt m r i j → r < pairsBelow m
+pair-within m r i j p =
+    let q = is-above m i j (p .rising) (p .below) in
+    rw (is-there m r i j p, ← pairs-all m, ← pairs-before m m (omega arith)) (within-each m (above m) i (j - suc i) (q .first-below) (q .place-below))
 
 -- a number has one pair
 pub same-pair : (m r i j i′ j′ : ℕ) → PairAt m r i j → PairAt m r i′ j′ → (i ≡ i′) × (j ≡ j′)

@@ -1,10 +1,10 @@
 -- What stands at a place: in lists made for each number, where the lengths of their parts are known, and in lists one behind the other.
 -- Assumes nothing.
-use mathlib.Core.Path.{_≡_, refl, sym, ap, _∙_}
+use mathlib.Core.Path.{_≡_, sym, ap, _∙_}
 use mathlib.Core.List.{List, [], _∷_, _++_}
-use Prim.Native.Nat.{ℕ, zero, suc, _+_, _*_, _/_, _%_, _≤_, _<_}
+use Prim.Native.Nat.{ℕ, zero, suc, _+_, _*_, _/_, _%_, _<_}
 use native.Mathlib.Omega.{arith}
-use native.Mathlib.Nat.{div-add-mod', mod-lt, div-lt-iff-lt-mul}
+use native.Mathlib.Nat.{mul-le-mul-right, suc-mul, div-add-mod', mod-lt, div-lt-iff-lt-mul}
 use lib.ListN.{length, getD, List·getD-append}
 use lib.Seq.{getD-append-add}
 use Rattle.rules.specs.Counting.{sumTo, forEach, joined}
@@ -21,6 +21,15 @@ pub in-row : (K m r : ℕ) → r < K * m → InRow K m r
 in-row K zero r h = absurd (omega arith)
 in-row K (suc m) r h =
     record { row = div-lt-iff-lt-mul {k = suc m} {x = r} {y = K} (omega arith) .1 h; place = mod-lt r (omega arith); is = sym (div-add-mod' r (suc m)) }
+
+pub within-rows : (K m s j : ℕ) → s < K → j < m → s * m + j < K * m
+within-rows K m s j h l = omega (arith, mul-le-mul-right m h, suc-mul s m)
+
+pub within-each : (m : ℕ) (w : ℕ → ℕ) (i j : ℕ) → i < m → j < w i → sumTo i w + j < sumTo m w
+within-each m w i j h l = omega (arith, sumTo-part m w i h)
+
+pub within-steps : (K m : ℕ) (w : ℕ → ℕ) (s i j : ℕ) → s < K → i < m → j < w i → s * sumTo m w + (sumTo i w + j) < K * sumTo m w
+within-steps K m w s i j h l b = within-rows K (sumTo m w) s (sumTo i w + j) h (within-each m w i j l b)
 
 module _ {X : Type 0} where
   -- list i stands behind all the lists before it
@@ -51,5 +60,5 @@ module _ {X : Type 0} where
       → (z : X) (s i j : ℕ) → s < K → i < m → j < w i
       → getD (forEach K (λ s. forEach m (f s))) (s * sumTo m w + (sumTo i w + j)) z ≡ getD (f s i) j z
   getD-steps K m f w e z s i j hs hi hj =
-      getD-times K (λ s. forEach m (f s)) (sumTo m w) (λ s. length-each m (f s) w (e s)) z s (sumTo i w + j) hs (omega (arith, sumTo-part m w i hi))
+      getD-times K (λ s. forEach m (f s)) (sumTo m w) (λ s. length-each m (f s) w (e s)) z s (sumTo i w + j) hs (within-each m w i j hi hj)
       ∙ getD-each m (f s) w (e s) z i j hi hj
