@@ -10,6 +10,9 @@ pub mod Files
 pub mod Numbering
 pub mod EachClause
 pub mod Counts
+pub mod Places
+pub mod Pairs
+pub mod ByNumber
 pub mod Bounds
 pub mod Lowest
 pub mod LaidOut
