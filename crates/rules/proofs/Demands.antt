@@ -24,33 +24,35 @@ use Rattle.rules.specs.declared.Phase.the-variants.{ModelClosed}
 use Rattle.rules.proofs.Schedules.{CarriedOut}
 use Rattle.rules.proofs.Endings.{Complete}
 
--- Demand 2: the formula is the eight families in order, with true counts in its header; a closed model is accepted exactly if all N variables are
--- given and every clause is true; a schedule is accepted exactly if its moves can be carried out and reach the goal, and the rows then hold its assignment.
-pub record Demand2 (T : Task) (k : ℕ) : Type 0 where
-  pub in-order :
-      formula (problem T k) ≡ joined (family1 (problem T k) ∷ family2 (problem T k) ∷ family3 (problem T k) ∷ family4 (problem T k)
-      ∷ family5 (problem T k) ∷ family6 (problem T k) ∷ family7 (problem T k) ∷ family8 (problem T k) ∷ [])
-  pub counted : map length (families (problem T k)) ≡ countTable T k
-  pub header :
-      headerLine (problem T k) ≡ ascii "p cnf " ++ decimal (k * (S T + A T) + S T) ++ (space ∷ []) ++ decimal (sum (countTable T k)) ++ (lf ∷ [])
-  pub model : (rows : Rows) → (outcome (problem T k) ModelClosed rows ≡ Accepted) ↔ Complete (problem T k) rows
-  pub schedule : (entries : List ℕ) → (judge (scheduleRules T k entries) ≡ Accepted) ↔ CarriedOut T k entries
-  pub rows-hold : (entries : List ℕ) (rows : Rows) (i : ℕ) → i < N (problem T k)
-      → (bitOfVariable (rowsOf (problem T k) entries rows .given) (suc i) ≡ true)
-      × (bitOfVariable (rowsOf (problem T k) entries rows .isTrue) (suc i) ≡ getD (assignmentOf (problem T k) entries) i false)
+module _ (T : Task) (k : ℕ) where
+  abbrev P : Problem
+  P = problem T k
 
--- an assignment of the N variables that makes every clause true
-pub record Satisfying (P : Problem) (bits : List Bool) : Type 0 where
-  pub size : length bits ≡ N P
-  pub all-true : satisfies (assigned bits) (formula P) ≡ true
+  -- Demand 2: the formula is the eight families in order, with true counts in its header; a closed model is accepted exactly if all N variables are
+  -- given and every clause is true; a schedule is accepted exactly if its moves can be carried out and reach the goal, and its rows hold its assignment.
+  pub record Demand2 : Type 0 where
+    pub in-order :
+        formula P ≡ joined (family1 P ∷ family2 P ∷ family3 P ∷ family4 P ∷ family5 P ∷ family6 P ∷ family7 P ∷ family8 P ∷ [])
+    pub counted : map length (families P) ≡ countTable T k
+    pub header :
+        headerLine P ≡ ascii "p cnf " ++ decimal (k * (S T + A T) + S T) ++ (space ∷ []) ++ decimal (sum (countTable T k)) ++ (lf ∷ [])
+    pub model : (rows : Rows) → (outcome P ModelClosed rows ≡ Accepted) ↔ Complete P rows
+    pub schedule : (entries : List ℕ) → (judge (scheduleRules T k entries) ≡ Accepted) ↔ CarriedOut T k entries
+    pub rows-hold : (entries : List ℕ) (rows : Rows) (i : ℕ) → i < N P
+        → (bitOfVariable (rowsOf P entries rows .given) (suc i) ≡ true)
+        × (bitOfVariable (rowsOf P entries rows .isTrue) (suc i) ≡ getD (assignmentOf P entries) i false)
 
--- Demand 3: satisfying assignments and good schedules pair off one to one by the readings of demand 2, no two assignments share a schedule, and there is
--- a satisfying assignment exactly if there is a plan of at most k moves.
-pub record Demand3 (T : Task) (k : ℕ) : Type 0 where
-  pub to-schedule : (bits : List Bool) → Satisfying (problem T k) bits → Good T k (scheduleOf (problem T k) (assigned bits))
-  pub to-assignment : (entries : List ℕ) → Good T k entries → Satisfying (problem T k) (assignmentOf (problem T k) entries)
-  pub there-and-back : (bits : List Bool) → Satisfying (problem T k) bits → assignmentOf (problem T k) (scheduleOf (problem T k) (assigned bits)) ≡ bits
-  pub back-and-there : (entries : List ℕ) → Good T k entries → scheduleOf (problem T k) (assigned (assignmentOf (problem T k) entries)) ≡ entries
-  pub no-two : (bits bits′ : List Bool) → Satisfying (problem T k) bits → Satisfying (problem T k) bits′
-      → scheduleOf (problem T k) (assigned bits) ≡ scheduleOf (problem T k) (assigned bits′) → bits ≡ bits′
-  pub plan : ((bits : List Bool) × Satisfying (problem T k) bits) ↔ ((moves : List ℕ) × (length moves ≤ k) × (isPlan T moves ≡ true))
+  -- an assignment of the N variables that makes every clause true
+  pub record Satisfying (bits : List Bool) : Type 0 where
+    pub size : length bits ≡ N P
+    pub all-true : satisfies (assigned bits) (formula P) ≡ true
+
+  -- Demand 3: satisfying assignments and good schedules pair off one to one by the readings of demand 2, no two assignments share a schedule, and
+  -- there is a satisfying assignment exactly if there is a plan of at most k moves.
+  pub record Demand3 : Type 0 where
+    pub to-schedule : (bits : List Bool) → Satisfying bits → Good T k (scheduleOf P (assigned bits))
+    pub to-assignment : (entries : List ℕ) → Good T k entries → Satisfying (assignmentOf P entries)
+    pub there-and-back : (bits : List Bool) → Satisfying bits → assignmentOf P (scheduleOf P (assigned bits)) ≡ bits
+    pub back-and-there : (entries : List ℕ) → Good T k entries → scheduleOf P (assigned (assignmentOf P entries)) ≡ entries
+    pub no-two : (bits bits′ : List Bool) → Satisfying bits → Satisfying bits′ → scheduleOf P (assigned bits) ≡ scheduleOf P (assigned bits′) → bits ≡ bits′
+    pub plan : ((bits : List Bool) × Satisfying bits) ↔ ((moves : List ℕ) × (length moves ≤ k) × (isPlan T moves ≡ true))

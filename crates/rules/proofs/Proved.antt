@@ -43,11 +43,11 @@ pub demand3 : (T : Task) → Valid T → (k : ℕ) → Demand3 T k
 demand3 T valid k =
     let P : Problem = problem T k in
     let fine : WellFormed T = valid-well-formed T valid in
-    let good : (bits : List Bool) → Satisfying P bits → CarriedOut T k (scheduleOf P (assigned bits)) =
+    let good : (bits : List Bool) → Satisfying T k bits → CarriedOut T k (scheduleOf P (assigned bits)) =
     λ bits b. schedule-good T k fine bits (b .size) (b .all-true) in
-    let satisfying : (entries : List ℕ) → CarriedOut T k entries → Satisfying P (assignmentOf P entries) =
+    let satisfying : (entries : List ℕ) → CarriedOut T k entries → Satisfying T k (assignmentOf P entries) =
     λ entries c. record { size = length-assignment T k entries; all-true = assignment-good T k fine entries c } in
-    let back : (bits : List Bool) → Satisfying P bits → assignmentOf P (scheduleOf P (assigned bits)) ≡ bits =
+    let back : (bits : List Bool) → Satisfying T k bits → assignmentOf P (scheduleOf P (assigned bits)) ≡ bits =
     λ bits b. assignment-back T k fine bits (b .size) (b .all-true) in
     record {
       to-schedule = λ bits b. record { entries = length-schedule T k (assigned bits); inOrder = out-carried T k _ (good bits b) };

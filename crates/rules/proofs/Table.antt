@@ -7,7 +7,7 @@ use Prim.Native.Nat.{ℕ, suc, _-_}
 use lib.ListN.{length, getD, set, replicate}
 use Rattle.rules.specs.Counting.{sumTo, first, forEach, forPairs, when, every, any, joined}
 use Rattle.rules.specs.Limits.{maxLiterals}
-use Rattle.rules.specs.Answers.{judge, numberOf, detailOf}
+use Rattle.rules.specs.Answers.{judge, answerTo}
 use Rattle.rules.specs.Task.{Task, pairAtFault, sizeAtFault, startAtFault, listInOrder, actionInOrder, actionAtFault, taskRules}
 use Rattle.rules.specs.File.{taskOf, body, contentsRules, rowAtFault, pairsAt, actionIn, restsUpTo, rests, isWhole, fileRules}
 use Rattle.rules.specs.Problem.{Problem, problem}
@@ -36,17 +36,17 @@ folderAt k = problemOf folder k
 -- ---- what the rows ask
 
 -- a refusal's number and detail, 0 and 0 for acceptance
-abbrev pub answer : Verdict → List ℕ
-answer v = numberOf v ∷ detailOf v ∷ []
+abbrev pub told : Verdict → List ℕ
+told v = answerTo v .number ∷ answerTo v .detail ∷ []
 
 abbrev pub N-and-C : ℕ → List ℕ
 N-and-C k = N (folderAt k) ∷ C (folderAt k) ∷ []
 
 abbrev pub clauseAsked : ℕ → ℕ → List ℕ
-clauseAsked k c = answer (clauseVerdict folder k c maxLiterals)
+clauseAsked k c = told (clauseVerdict folder k c maxLiterals)
 
 abbrev pub scheduleJudged : ℕ → List ℕ → List ℕ
-scheduleJudged k schedule = answer (judge (scheduleRules (taskOf folder) k schedule))
+scheduleJudged k schedule = told (judge (scheduleRules (taskOf folder) k schedule))
 
 -- the variables that the model of a schedule has true
 abbrev pub trueVariables : ℕ → List ℕ → List ℕ
@@ -57,17 +57,17 @@ trueVariables k schedule =
 -- the end of a reading that gave the model of a schedule with one variable false
 abbrev pub endWithFalse : ℕ → List ℕ → ℕ → List ℕ
 endWithFalse k schedule v =
-    answer (outcome (folderAt k) ModelClosed
+    told (outcome (folderAt k) ModelClosed
     (record { given = packed (replicate (N (folderAt k)) true); isTrue = packed (set (assignmentOf (folderAt k) schedule) (v - 1) false) }))
 
 -- ---- the table
 
 pub record Row : Type 0 where
   pub asked : List (List ℕ)
-  pub told : List (List ℕ)
+  pub right : List (List ℕ)
 
 abbrev row : List (List ℕ) → List (List ℕ) → Row
-row asked told = record { asked = asked; told = told }
+row asked right = record { asked = asked; right = right }
 
 abbrev pub rows : List Row
 rows =
@@ -86,7 +86,7 @@ rows =
     ∷ row (endWithFalse 2 (1 ∷ 2 ∷ []) 16 ∷ []) ((17 ∷ 2 ∷ []) ∷ [])  -- P12
     ∷ []
 
-pub all-rows : map (λ r. r .asked) rows ≡ map (λ r. r .told) rows
+pub all-rows : map (λ r. r .asked) rows ≡ map (λ r. r .right) rows
 unfolding
     sumTo first forEach forPairs every any joined judge
     pairAtFault sizeAtFault startAtFault listInOrder actionInOrder actionAtFault taskRules
