@@ -12,6 +12,7 @@ pub mod Counts
 pub mod Places
 pub mod Pairs
 pub mod ByNumber
+pub mod Decimal
 pub mod Bounds
 pub mod LaidOut
 pub mod Clauses

@@ -1,0 +1,3 @@
+-- What the proofs of this crate's functions, and of those that write beside them, share.
+pub mod Overs
+mod Writing
