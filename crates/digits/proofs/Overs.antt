@@ -1,13 +1,12 @@
 -- Laws of writing over lent room: one part behind the other is one part, and a part may be written from its end.
 -- Assumes nothing.
-use mathlib.Core.Path.{_≡_, ap}
+use mathlib.Core.Path.{_≡_, ap, _∙_}
 use mathlib.Core.List.{List, [], _∷_, _++_, append-assoc, append-nil}
 use Prim.Native.Nat.{ℕ, zero, suc, _+_, _≤_, _<_}
 use native.Mathlib.Omega.{arith}
 use native.Mathlib.Nat.{add-zero, zero-add, suc-add}
-use native.Mathlib.Numerals.{add-one}
 use lib.ListN.{length, take, drop, set, take-append-drop, length-append, length-take, length-drop, drop-of-length-le}
-use lib.Seq.{take-all, set-split, take-set-le, drop-append-add, take-append-seam, drop-drop, drop-at, length-take-le}
+use lib.Seq.{take-all, set-split, take-set-le, drop-append-add, take-append-seam, drop-drop, drop-at, length-take-le, sets, sets-eq}
 use Rattle.digits.specs.Over.{over}
 
 module _ {X : Type 0} where
@@ -46,10 +45,13 @@ module _ {X : Type 0} where
   unfolding over
   length-over l i x h = simp (length-append, length-take, length-drop) (omega arith)
 
-  -- one element
-  pub set-over : (l : List X) (i : ℕ) (a : X) → i < length l → set l i a ≡ over l i (a ∷ [])
+  -- one element after the other
+  pub sets-over : (l : List X) (i : ℕ) (x : List X) → i + length x ≤ length l → sets l i x ≡ over l i x
   unfolding over
-  set-over l i a h = rw (add-one i) (set-split l i a h)
+  sets-over l i x h = sets-eq x l i h ∙ append-assoc (take i l) x (drop (i + length x) l)
+
+  pub set-over : (l : List X) (i : ℕ) (a : X) → i < length l → set l i a ≡ over l i (a ∷ [])
+  set-over l i a h = sets-over l i (a ∷ []) (omega arith)
 
   drop-set : (l : List X) (i : ℕ) (a : X) → i < length l → drop i (set l i a) ≡ a ∷ drop (suc i) l
   drop-set l i a h = rw (set-split l i a h) (drop-at (take i l) (a ∷ drop (suc i) l) i (length-take-le i l (omega arith)))

@@ -2,8 +2,8 @@
 -- Assumes nothing.
 use Prim.Native.Nat.{ℕ, _^_}
 
-abbrev pub maxDigits : ℕ
-maxDigits = 18
+abbrev pub mostDigits : ℕ
+mostDigits = 18
 
 abbrev pub pastNumbers : ℕ
-pastNumbers = 10 ^ maxDigits
+pastNumbers = 10 ^ mostDigits

@@ -1,4 +1,6 @@
 // Numbers as decimal text in lent room.
+pub mod words;
+
 ghost use mathlib.Core.Path.{_≡_};
 ghost use mathlib.Core.List.{[], _∷_};
 ghost use Prim.Native.Nat.{_+_, _≤_, _<_};

@@ -2,7 +2,7 @@
 -- Assumes nothing.
 use mathlib.Core.Path.{_≡_, sym, ap, _∙_}
 use mathlib.Core.Logic.{⊎-elim}
-use mathlib.Core.Bool.{true, false}
+use mathlib.Core.Bool.{Bool, true, false}
 use mathlib.Core.List.{[], _∷_, _++_}
 use Prim.Native.Nat.{ℕ, zero, suc, _+_, _*_, _/_, _%_, _^_, _≤_, _<_}
 use native.Mathlib.Omega.{arith}
@@ -10,8 +10,10 @@ use native.Mathlib.Nat.{pow-suc, one-le-pow}
 use borrow.Author.Tests.{lt-ltb, le-ltb}
 use lib.Dec.{lit<}
 use lib.ListN.{length, length-append}
+use Rattle.rules.specs.Counting.{every}
 use Rattle.rules.specs.Text.{digit0, decimalUpTo, decimal}
 use Rattle.rules.proofs.Bools.{below-or}
+use Rattle.rules.proofs.Counting.{every-one, every-append}
 
 small : (most m : ℕ) → m < 10 → decimalUpTo (suc most) m ≡ (digit0 + m) ∷ []
 unfolding decimalUpTo
@@ -60,3 +62,22 @@ decimal-length (suc n) m h l =
     let low : 10 ^ suc n ≡ 10 ^ n * 10 = pow-suc 10 n in
     let high : 10 ^ suc (suc n) ≡ 10 ^ suc n * 10 = pow-suc 10 (suc n) in
     decimal-length-more m (omega (arith, one-le-pow n 10 (lit< tt))) ∙ ap suc (decimal-length n (m / 10) (omega arith) (omega arith))
+
+-- a number below a power of ten has no more digits
+pub decimal-few : (n m : ℕ) → m < 10 ^ suc n → length (decimal m) ≤ suc n
+decimal-few zero m l = omega (arith, decimal-length-one m l)
+decimal-few (suc n) m l =
+    ⊎-elim (λ s. omega (arith, decimal-length-one m s))
+    (λ g. omega (arith, decimal-length-more m g, decimal-few n (m / 10) (omega (arith, pow-suc 10 (suc n)))))
+    (below-or m 10)
+
+-- what holds of every digit's byte holds of the text
+pub decimal-every : (p : ℕ → Bool) → ((j : ℕ) → j < 10 → p (digit0 + j) ≡ true) → (m : ℕ) → every p (decimal m) ≡ true
+decimal-every p h m = below (suc m) m (omega arith)
+  where
+    below : (most m : ℕ) → m < most → every p (decimal m) ≡ true
+    below zero m l = absurd (omega arith)
+    below (suc most) m l =
+        ⊎-elim (λ s. rw (decimal-one m s) (every-one p (digit0 + m) (h m s)))
+        (λ g. rw (decimal-more m g) (every-append p (decimal (m / 10)) ((digit0 + m % 10) ∷ []) (below most (m / 10) (omega arith)) (every-one p (digit0 + m % 10) (h (m % 10) (omega arith)))))
+        (below-or m 10)
