@@ -13,6 +13,7 @@ pub mod Counts
 pub mod Places
 pub mod Pairs
 pub mod ByNumber
+pub mod Decimal
 pub mod Bounds
 pub mod Lowest
 pub mod LaidOut
