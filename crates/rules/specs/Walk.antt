@@ -6,7 +6,7 @@ use mathlib.Core.Path.{_≡_}
 use mathlib.Core.List.{List, [], _∷_, _++_}
 use lib.Dec.{ltb, eqb}
 use lib.ListN.{length, getD, set, replicate}
-use Rattle.rules.specs.Counting.{first, every}
+use Rattle.rules.specs.Counting.{every}
 use Rattle.rules.specs.Limits.{maxVariables}
 use Rattle.rules.specs.Answers.{Rule, noneAtFault, judge}
 use Rattle.rules.specs.Task.{Pair, Task, n, A, pair, action}
