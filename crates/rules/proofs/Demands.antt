@@ -16,12 +16,11 @@ use Rattle.rules.specs.Counts.{sum, countTable}
 use Rattle.rules.specs.Text.{ascii, decimal, space, lf, headerLine}
 use Rattle.rules.specs.Rows.{Rows, bitOfVariable}
 use Rattle.rules.specs.Truth.{satisfies, assigned}
-use Rattle.rules.specs.Walk.{scheduleRules, Good, isPlan}
+use Rattle.rules.specs.Walk.{scheduleRules, CarriedOut, Good, isPlan}
 use Rattle.rules.specs.Readings.{scheduleOf, assignmentOf, rowsOf}
 use Rattle.rules.specs.Output.{outcome}
 use Rattle.rules.specs.declared.Verdict.the-variants.{Accepted}
 use Rattle.rules.specs.declared.Phase.the-variants.{ModelClosed}
-use Rattle.rules.proofs.Schedules.{CarriedOut}
 use Rattle.rules.proofs.Endings.{Complete}
 
 module _ (T : Task) (k : ℕ) where

@@ -14,12 +14,13 @@ use Rattle.rules.specs.Numbering.{N}
 use Rattle.rules.specs.Families.{formula}
 use Rattle.rules.specs.Rows.{Rows, bitOfVariable}
 use Rattle.rules.specs.Truth.{satisfies, modelIn, assigned}
+use Rattle.rules.specs.Walk.{CarriedOut}
 use Rattle.rules.specs.Readings.{scheduleOf, assignmentOf, rowsOf}
 use Rattle.rules.proofs.Counting.{length-table, getD-table}
 use Rattle.rules.proofs.Valid.{WellFormed}
 use Rattle.rules.proofs.Within.{Agree, satisfied-alike, schedule-alike}
 use Rattle.rules.proofs.Endings.{Complete}
-use Rattle.rules.proofs.Schedules.{CarriedOut, length-assignment, schedule-good, assignment-back, assignment-good, schedule-back}
+use Rattle.rules.proofs.Schedules.{length-assignment, schedule-good, assignment-back, assignment-good, schedule-back}
 use Rattle.rules.proofs.Demands.{Demand2}
 use Rattle.rules.proofs.Proved.{demand2}
 

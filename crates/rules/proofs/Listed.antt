@@ -14,7 +14,7 @@ use Rattle.rules.specs.Walk.{entry, scheduleRules, Good}
 use Rattle.rules.specs.declared.Verdict.{Verdict}
 use Rattle.rules.specs.declared.Verdict.the-variants.{Accepted, Refused}
 use Rattle.rules.proofs.Bools.{clash, below-suc}
-use Rattle.rules.proofs.Schedules.{CarriedOut, carried-out}
+use Rattle.rules.proofs.Schedules.{carried-out, out-carried}
 
 -- every row of k entries from 0 to m
 unfoldable pub allRows : ℕ → ℕ → List (List ℕ)
@@ -107,13 +107,12 @@ of-order T k (r ∷ rows) row h =
 pub good-listed : (T : Task) (k : ℕ) (schedule : List ℕ) → Good T k schedule → List·Memᴰ schedule (goodSchedules T k)
 unfolding goodSchedules
 good-listed T k schedule g =
-    let c : CarriedOut T k schedule = carried-out T k schedule (g .inOrder) in
     in-order T k (allRows (A T) k) schedule
-    (rw (g .entries) at (all-there (A T) schedule (λ s l. c .entries-known s (rw (g .entries) at l))))
-    (g .inOrder)
+    (rw (g .entries) at (all-there (A T) schedule (λ s l. g .carried .entries-known s (rw (g .entries) at l))))
+    (out-carried T k schedule (g .carried))
 
 pub listed-good : (T : Task) (k : ℕ) (schedule : List ℕ) → List·Memᴰ schedule (goodSchedules T k) → Good T k schedule
 unfolding goodSchedules
 listed-good T k schedule h =
     let p = of-order T k (allRows (A T) k) schedule h in
-    record { entries = all-long (A T) k schedule (p .0); inOrder = p .1 }
+    record { entries = all-long (A T) k schedule (p .0); carried = carried-out T k schedule (p .1) }

@@ -10,9 +10,8 @@ use borrow.Author.Tests.{leb-true, le-leb}
 use lib.Dec.{leb, leb·zero}
 use lib.ListN.{length, replicate, length-append, length-replicate, length-map}
 use Rattle.rules.specs.Task.{Task, A}
-use Rattle.rules.specs.Walk.{State, startState, reached, entry, entryApplies, afterEntry, stateAt, isPlanFrom, isPlan}
+use Rattle.rules.specs.Walk.{State, startState, reached, entry, entryApplies, afterEntry, stateAt, CarriedOut, isPlanFrom, isPlan}
 use Rattle.rules.proofs.Bools.{and-left, and-right, and-both}
-use Rattle.rules.proofs.Schedules.{CarriedOut}
 
 -- ---- the walk from the front, from any state
 

@@ -13,13 +13,13 @@ use Rattle.rules.specs.Numbering.{N}
 use Rattle.rules.specs.Families.{families, formula}
 use Rattle.rules.specs.Text.{ascii, decimal, space, lf, headerLine}
 use Rattle.rules.specs.Truth.{assigned}
-use Rattle.rules.specs.Walk.{Good}
+use Rattle.rules.specs.Walk.{CarriedOut, Good}
 use Rattle.rules.specs.Readings.{scheduleOf, assignmentOf, rowsOf}
 use Rattle.rules.proofs.Valid.{WellFormed, valid-well-formed}
 use Rattle.rules.proofs.Bits.{packed-bit}
 use Rattle.rules.proofs.Counts.{counts, C-is}
 use Rattle.rules.proofs.Endings.{accepted-complete, complete-accepted}
-use Rattle.rules.proofs.Schedules.{CarriedOut, carried-out, out-carried, length-assignment, length-schedule, schedule-good, assignment-back, assignment-good, schedule-back}
+use Rattle.rules.proofs.Schedules.{carried-out, out-carried, length-assignment, length-schedule, schedule-good, assignment-back, assignment-good, schedule-back}
 use Rattle.rules.proofs.Plans.{movesOf, moves-most, schedule-plan, padded, length-padded, plan-schedule}
 use Rattle.rules.proofs.Demands.{Demand2, Satisfying, Demand3}
 
@@ -50,11 +50,11 @@ demand3 T valid k =
     let back : (bits : List Bool) → Satisfying T k bits → assignmentOf P (scheduleOf P (assigned bits)) ≡ bits =
     λ bits b. assignment-back T k fine bits (b .size) (b .all-true) in
     record {
-      to-schedule = λ bits b. record { entries = length-schedule T k (assigned bits); inOrder = out-carried T k _ (good bits b) };
-      to-assignment = λ entries g. satisfying entries (carried-out T k entries (g .inOrder));
+      to-schedule = λ bits b. record { entries = length-schedule T k (assigned bits); carried = good bits b };
+      to-assignment = λ entries g. satisfying entries (g .carried);
       there-and-back = back;
       back-and-there = λ entries g.
-          schedule-back T k fine entries (omega (arith, g .entries)) (carried-out T k entries (g .inOrder)) ∙ take-all k entries (omega (arith, g .entries));
+          schedule-back T k fine entries (omega (arith, g .entries)) (g .carried) ∙ take-all k entries (omega (arith, g .entries));
       no-two = λ bits bits′ b b′ e. sym (back bits b) ∙ ap (assignmentOf P) e ∙ back bits′ b′;
       plan = (
         λ m.

@@ -17,7 +17,7 @@ use Rattle.rules.specs.Problem.{Problem, problem}
 use Rattle.rules.specs.Numbering.{actionNumber, N}
 use Rattle.rules.specs.Families.{plus, formula}
 use Rattle.rules.specs.Truth.{Model, literalTrue, satisfies, assigned}
-use Rattle.rules.specs.Walk.{State, startState, holds, applies, setPairs, apply, reached, entry, entryApplies, afterEntry, stateAt, scheduleRules, Good}
+use Rattle.rules.specs.Walk.{State, startState, holds, applies, setPairs, apply, reached, entry, entryApplies, afterEntry, stateAt, scheduleRules, CarriedOut}
 use Rattle.rules.specs.Readings.{trueAction, entryOf, scheduleOf, valueBits, actionBits, assignmentOf}
 use Rattle.rules.specs.declared.Verdict.the-variants.{Accepted}
 use Rattle.rules.proofs.Bools.{either, clash, not-true, not-false, below-or, same-truth}
@@ -56,12 +56,7 @@ same-walk T schedule (suc s) =
 
 -- ---- good schedules are runs
 
--- a good schedule in words
-pub record CarriedOut (T : Task) (k : ℕ) (schedule : List ℕ) : Type 0 where
-  pub entries-known : (s : ℕ) → s < k → entry schedule s ≤ A T
-  pub each-applies : (s : ℕ) → s < k → entryApplies T (entry schedule s) (stateAt T schedule s) ≡ true
-  pub reaches-goal : reached T (stateAt T schedule k) ≡ true
-
+-- refusals 20 to 22 apply to just the schedules that cannot be carried out or miss the goal
 pub carried-out : (T : Task) (k : ℕ) (schedule : List ℕ) → judge (scheduleRules T k schedule) ≡ Accepted → CarriedOut T k schedule
 unfolding scheduleRules reached
 carried-out T k schedule h₂₀ =

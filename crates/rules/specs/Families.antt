@@ -43,8 +43,11 @@ module _ (P : Problem) where
   family2 = table (length (T .goal)) (λ i. plus (pairNumber k (pair (T .goal) i)) ∷ [])
 
   -- all values of x at a step
+  abbrev pub family3At : ℕ → List Clause
+  family3At s = table (n T) (λ x. table (d T x) (λ v. plus (valueNumber P s x v)))
+
   unfoldable pub family3 : List Clause
-  family3 = forEach (suc k) (λ s. table (n T) (λ x. table (d T x) (λ v. plus (valueNumber P s x v))))
+  family3 = forEach (suc k) family3At
 
   -- not v, not w at a step, v < w
   unfoldable pub family4 : List Clause
