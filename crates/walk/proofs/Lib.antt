@@ -1,2 +1,3 @@
 -- What is proved of the walk.
 pub mod Moves
+mod Values
