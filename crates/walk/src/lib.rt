@@ -9,7 +9,9 @@ ghost use Rattle.rules.specs.Walk.{holds, setPairs};
 ghost use Rattle.walk.specs.Lent.{pairAt, goalIn, firstUnmet, startValues};
 
 const MAX_VARIABLES: usize = 96;
+
 const COUNT_BYTES: usize = 2;
+
 const PAIR_BYTES: usize = 2;
 
 // The state of a walk: the value of each variable, and 0 from n on.

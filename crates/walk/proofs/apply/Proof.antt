@@ -31,17 +31,17 @@ use denote.Laws.{Is, shows}
 use denote.Plain.{nothing-lawful}
 use denote.Builtin.{u8, unit}
 use denote.Ref.{RefT, MutRef, ptr-vals, mut-tells}
-use denote.Slice.{sliceVal, ShrSlice, slice-vals, shr-slice-tells, shr-slice-lawful, shr-slice-copy}
-use denote.Steps.{opens, peeks, heard, nothing}
+use denote.Slice.{sliceVal, MutSlice, ShrSlice, slice-vals, shr-slice-tells, shr-slice-lawful}
+use denote.Steps.{peeks, heard, nothing}
 use denote.Triple.Entry.{onEntry}
 use denote.Triple.Spec.{Meets, tripleOf}
 use denote.Triple.Statement.{Contract, Triple}
 use denote.Triple.Call.{calls-at}
 use denote.Triple.Clauses.{ensured, lasts}
 use denote.Triple.Table.{entered, cited}
-use denote.Triple.Walked.{says, Stays, stay-ref, stay-none-slice, walkOf, goes-ref, goes-none-slice, Walks, ends-at, walked, walk-meets}
+use denote.Triple.Walked.{says, Stays, stay-ref, stay-dropped, walkOf, goes-ref, goes-dropped, Walks, ends-at, walked, walk-meets}
 use denote.Exit.{yes}
-use denote.Signature.{plain}
+use denote.Signature.{plain, shrSliceOf}
 use Rattle.rules.specs.File.{actionIn}
 use Rattle.rules.specs.Walk.{setPairs}
 use Rattle.walk.specs.declared.State.{State}
@@ -57,7 +57,7 @@ use Rattle.walk.proofs.apply.Statement as stated
 use Rattle.walk.proofs.apply.Code as code
 
 abbrev stayed : Stays (apply.ended .signature .params) (apply.ended .kept)
-stayed = (stay-ref (0 ∷ []) tt (plain (λ _. T.the-row)), (stay-none-slice (1 ∷ []) tt (plain (λ _. u8)) yes, tt))
+stayed = (stay-ref (0 ∷ []) tt (plain (λ _. T.the-row)), (stay-dropped (shrSliceOf (1 ∷ []) tt (plain (λ _. u8))) yes, tt))
 
 -- the contract that the proof cites
 abbrev SetEffects : {M : Type 1} (𝓤 : URA M) (H : Heap 𝓤) (A : Atoms 𝓤) (mem : Memory → SProp 𝓤) (run : Routine → Fun 𝓤) → Contract 𝓤
@@ -98,17 +98,17 @@ module _ {M : Type 1} (𝓤 : URA M) (H : Heap 𝓤) (A : Atoms 𝓤) (W : Given
   Tokens ν = ‵ (flft (ν ∷ []) fullShare) ⊛ (‵ (flft κ′ q′) ⊛ ‵ ftrue)
 
   abbrev Slice : ℕ → GName → Item 𝓤
-  Slice ν δ = ‵ (denote.Slice.MutSlice (named 0) (ν ∷ []) u8 .own (lent δ b o (h .values)) (s ∷ []))
+  Slice ν δ = ‵ (MutSlice (named 0) (ν ∷ []) u8 .own (lent δ b o (h .values)) (s ∷ []))
 
   goes : (ν : ℕ) (δ : GName) → ent 𝓤 (⋆ 𝓤 H A (Tokens ν ∷ Slice ν δ ∷ ‵ Own ∷ [])) (SetEffects 𝓤 H A at-mem run .pre (to-callee ν δ))
   goes ν δ = qed W (Tokens ν ∷ Slice ν δ ∷ ‵ Own ∷ []) ∵ nothing ! $ move ! (3 ∷ 0 ∷ []) $ fjoin ! $ move ! (2 ∷ 0 ∷ []) $ fjoin ! $ move ! (1 ∷ 0 ∷ []) $ join ! $ frame ! $ done !
 
-  exits : (zs : List ℕ) → Moved zs → ent 𝓤 (⋆ 𝓤 H A (‵ (fobs γ (T.the-row .coded .code (with-values zs))) ∷ ‵ (fbor κ (Body (mem T.the-row) b o γ)) ∷ ‵ (flft κ q) ∷ (‵ (flft κ′ q′) ⊛ ‵ ftrue) ∷ ‵ Own ∷ [])) (Post vunit)
+  exits : (zs : List ℕ) → Moved zs → ent 𝓤 (⋆ 𝓤 H A (‵ (fobs γ (T.the-row .coded .code (with-values zs))) ∷ ‵ (fbor κ (Body (mem T.the-row) b o γ)) ∷ ‵ (flft κ q) ∷ (‵ (flft κ′ q′) ⊛ ‵ ftrue) ∷ [])) (Post vunit)
   exits zs e =
-      qed W (‵ (fobs γ (T.the-row .coded .code (with-values zs))) ∷ ‵ (fbor κ (Body (mem T.the-row) b o γ)) ∷ ‵ (flft κ q) ∷ (‵ (flft κ′ q′) ⊛ ‵ ftrue) ∷ ‵ Own ∷ []) ∵
+      qed W (‵ (fobs γ (T.the-row .coded .code (with-values zs))) ∷ ‵ (fbor κ (Body (mem T.the-row) b o γ)) ∷ ‵ (flft κ q) ∷ (‵ (flft κ′ q′) ⊛ ‵ ftrue) ∷ []) ∵
       suffices ! _ (ends-at 𝓤 H A apply.ended stayed (apply.clauses 𝓤 H A at-mem run) W (((κ, (κ′, tt)), (q, (q′, tt)), tt, a, vals), tt) vunit tt (with-values zs, (tt, tt)) (tt, (tt, tt))) $ says ! e $
       move ! (2 ∷ 3 ∷ []) $ join ! $ frame ! $ feqI ! (List Val) (vptr b o ∷ []) (vptr b o ∷ []) refl $ fjoin3 ! $
-      nothing ! $ move ! (2 ∷ 0 ∷ []) $ fjoin ! $ move ! (1 ∷ 0 ∷ []) $ fjoin ! $ feqI ! (List Val) (vunit ∷ []) (vunit ∷ []) refl $ move ! (1 ∷ 0 ∷ []) $ done !
+      nothing ! $ nothing ! $ fjoin ! $ move ! (1 ∷ 0 ∷ []) $ fjoin ! $ feqI ! (List Val) (vunit ∷ []) (vunit ∷ []) refl $ move ! (1 ∷ 0 ∷ []) $ done !
 
   module _ (C : Calls 𝓤 H) (Λ : Loops 𝓤 H) (fm : FmC 𝓤 H (W .laws) C) (known : Triple 𝓤 (C #walk·set-effects) (SetEffects 𝓤 H A at-mem run)) where
     walk : Is (ShrSlice (named 1) κ′ u8) action (v ∷ []) → ent 𝓤 (onEntry 𝓤 H A apply.signature (κ, (κ′, tt)) (q, (q′, tt)) a vals) (WpFn 𝓤 H C Λ code.function (vptr b o ∷ v ∷ []) Post)
@@ -123,26 +123,24 @@ module _ {M : Type 1} (𝓤 : URA M) (H : Heap 𝓤) (A : Atoms 𝓤) (W : Given
         -- its values are lent for a lifetime ν of the call
         lft-new ! tt (λ ν. move ! (1 ∷ []) $ use1 W (later (some (Lent 𝓤 H A W b o (ν ∷ []) (named 0) (h .values)))) (lends-values 𝓤 H A W b o (ν ∷ []) (named 0) h) $ await ! tt $ pick ! (λ δ. split ! $
         -- [the slice; what is left of the state; ν's token; the open borrow; obs; auth; the action's token; what the action owns; _5; …; _4; …; room for _3; …; _2; …; _1; …; room for _0; …]
-        move ! (7 ∷ []) $ fsplit ! $ use1 W (‵ Own ⊛ ‵ Own) (shr-slice-copy 𝓤 H A W (named 1) κ′ u8 .twice action (v ∷ [])) $ split ! $ move ! (5 ∷ 9 ∷ []) $ join ! $ move ! (0 ∷ 4 ∷ 1 ∷ []) $
-        use3 W (raw (SetEffects 𝓤 H A at-mem run .pre (to-callee ν δ))) (goes ν δ) $
-        -- [what the call takes; what the action owns; true; what is left of the state; the open borrow; obs; auth; _5; …; _4; …; room for _3; …; _2; …; _1; …; room for _0; …]
-        calls-at ! fm (SetEffects 𝓤 H A at-mem run) known (to-callee ν δ) (and-then ! (load ! (from ! (stop !)) (look ! 7 refl)) (and-then ! (load ! (from ! (stop !)) (look ! 13 refl)) (no-more !))) (λ w.
+        move ! (7 ∷ []) $ fsplit ! $ move ! (4 ∷ 8 ∷ []) $ join ! $ move ! (0 ∷ 3 ∷ 1 ∷ []) $ use3 W (raw (SetEffects 𝓤 H A at-mem run .pre (to-callee ν δ))) (goes ν δ) $
+        -- [what the call takes; true; what is left of the state; the open borrow; obs; auth; _5; …; _4; …; room for _3; …; _2; …; _1; …; room for _0; …]
+        calls-at ! fm (SetEffects 𝓤 H A at-mem run) known (to-callee ν δ) (and-then ! (load ! (from ! (stop !)) (look ! 6 refl)) (and-then ! (load ! (from ! (stop !)) (look ! 12 refl)) (no-more !))) (λ w.
         use1 W (later (some (λ (r : Unit {0}). (Tokens ν ⊛ ‵ (unit .own r (w ∷ []))) ⊛ raw (ensured 𝓤 H A set-effects.ended (set-effects.clauses 𝓤 H A at-mem run) (ν ∷ [], (κ′, tt)) (lent δ b o (h .values), (action, tt)) tt r)))) (id⊢ 𝓤 _) $ await ! tt $ pick ! (λ r.
         -- what set_effects ensures, at some last list
         split ! $ move ! (1 ∷ []) $ use1 W (some (λ (zs : List ℕ × (Unit {0} × Unit {0})). ‵ (lasts set-effects.ended (ν ∷ [], (κ′, tt)) (lent δ b o (h .values), (action, tt)) zs) ⊛ raw (fact 𝓤 (Moved (zs .0))))) (id⊢ 𝓤 _) $ pick ! (λ zs.
-        split ! $ move ! (1 ∷ []) $ heard ! (Moved (zs .0)) (λ e. fsplit ! $ fsplit ! $ move ! (1 ∷ []) $ drop ! $
-        -- [the last list; …; the tokens and the result; what the action owns; true; what is left of the state; the open borrow; obs; auth; _5; …; _4; …; room for _3; …; _2; …; _1; …; room for _0; …]
-        move ! (2 ∷ []) $ split ! $ move ! (1 ∷ []) $ peeks ! unit (Is unit) (shows 𝓤 H A unit) r (w ∷ []) (λ is.
-        land ! (from ! (stop !)) (init ! 14 refl (nothing-lawful 𝓤 H A W .typed r _ is .0)) $
+        split ! $ move ! (1 ∷ []) $ heard ! (Moved (zs .0)) (λ e. fsplit ! $ fsplit ! $ move ! (3 ∷ []) $ split ! $ move ! (1 ∷ []) $
+        -- [the result; the tokens; the last list; its length; …; true; what is left of the state; the open borrow; obs; auth; _5; …; _4; …; room for _3; …; _2; …; _1; …; room for _0; …]
+        peeks ! unit (Is unit) (shows 𝓤 H A unit) r (w ∷ []) (λ is. land ! (from ! (stop !)) (init ! 14 refl (nothing-lawful 𝓤 H A W .typed r _ is .0)) $
         -- the lifetime is ended, the values come back, and the borrow is closed
         move ! (1 ∷ []) $ split ! $ lft-end ! tt $ move ! (0 ∷ 7 ∷ 3 ∷ []) $
         use3 W (later (‵ (lies (with-values (zs .0)) b o))) (values-back 𝓤 H A W b o (ν ∷ []) δ (zs .0)) $ await ! tt $
         move ! (0 ∷ 6 ∷ 7 ∷ 8 ∷ []) $ close-ref ! tt (mem T.the-row) (with-values (zs .0)) {b = b} {o = o} $
-        -- [obs; the borrow; its token; the action's token; the result; …; what the action owns; true; _5; …; _4; …; _3; …; _2; …; _1; …; room for _0; …]
+        -- [obs; the borrow; its token; the action's token; the result; …; …; true; _5; …; _4; …; _3; …; _2; …; _1; …; room for _0; …]
         assigns ! (of-opd ! (unit-lit !)) (from ! (stop !)) (init ! 18 refl (tt, tt)) $
         returns ! (look ! 18 refl) $ forget ! 8 refl $ forget ! 10 refl $ forget ! 12 refl $ forget ! 14 refl $ forget ! 16 refl $ forget ! 18 refl $
         move ! (18 ∷ 19 ∷ []) $ free1 ! $ move ! (16 ∷ 17 ∷ []) $ free1 ! $ move ! (14 ∷ 15 ∷ []) $ free1 ! $ move ! (12 ∷ 13 ∷ []) $ free1 ! $ move ! (10 ∷ 11 ∷ []) $ free1 ! $ move ! (8 ∷ 9 ∷ []) $ free1 ! $ free0 ! $
-        keep ! (0 ∷ 1 ∷ 2 ∷ 3 ∷ 6 ∷ []) $ by ! (exits (zs .0) e))))))))))))))
+        keep ! (0 ∷ 1 ∷ 2 ∷ 3 ∷ []) $ by ! (exits (zs .0) e))))))))))))))
 
 module _ {M : Type 1} (𝓤 : URA M) (H : Heap 𝓤) (A : Atoms 𝓤) (W : Given 𝓤 H A) (mem : Memory → SProp 𝓤) (run : Routine → Fun 𝓤) where
   apply-walks : (C : Calls 𝓤 H) (Λ : Loops 𝓤 H) → FmC 𝓤 H (W .laws) C → Triple 𝓤 (C #walk·set-effects) (SetEffects 𝓤 H A mem run) → Walks 𝓤 H A apply.ended stayed (WpFn 𝓤 H C Λ code.function) (apply.clauses 𝓤 H A mem run)
@@ -152,7 +150,7 @@ module _ {M : Type 1} (𝓤 : URA M) (H : Heap 𝓤) (A : Atoms 𝓤) (W : Given
 apply-meets : {M : Type 1} (𝓤 : URA M) (H : Heap 𝓤) (A : Atoms 𝓤) → Given 𝓤 H A → (mem : Memory → SProp 𝓤) (run : Routine → Fun 𝓤) (𝓣 : Tables 𝓤 H) → Triple 𝓤 (𝓣 .C #walk·set-effects) (SetEffects 𝓤 H A mem run)
     → Meets 𝓤 H A apply.signature (WpFn 𝓤 H (𝓣 .C) (𝓣 .Λ) code.function) (apply.spec 𝓤 H A mem run)
 apply-meets 𝓤 H A W mem run 𝓣 known =
-    walk-meets 𝓤 H A apply.ended stayed W (goes-ref 𝓤 H A W 2 0 tt (plain (λ _. T.the-row)), (goes-none-slice 𝓤 H A W 2 (1 ∷ []) tt (plain (λ _. u8)) yes, tt)) (apply.clauses 𝓤 H A mem run)
+    walk-meets 𝓤 H A apply.ended stayed W (goes-ref 𝓤 H A W 2 0 tt (plain (λ _. T.the-row)), (goes-dropped 𝓤 H A W 2 (shrSliceOf (1 ∷ []) tt (plain (λ _. u8))) yes (λ κs x f. refl), tt)) (apply.clauses 𝓤 H A mem run)
     (WpFn 𝓤 H (𝓣 .C) (𝓣 .Λ) code.function) (WpFn-mono 𝓤 H (W .laws) 𝓣 code.function) (apply-walks 𝓤 H A W mem run (𝓣 .C) (𝓣 .Λ) (fmOf 𝓤 H (W .laws) 𝓣) known)
 
 pub apply-spec : {M : Type 1} → stated.statement M
