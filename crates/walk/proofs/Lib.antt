@@ -1,3 +1,4 @@
 -- What is proved of the walk.
 pub mod Moves
 mod Values
+pub mod OneAnswer
