@@ -8,13 +8,13 @@ use Prim.Native.Nat.{ℕ, zero, suc, _+_, _-_, _*_, _/_, _≤_, _<_}
 use native.Mathlib.Omega.{arith}
 use native.Mathlib.Numerals.{add-one}
 use lib.Dec.{eqb}
-use lib.ListN.{length, getD, set, replicate, length-append, length-replicate, getD-replicate, List·getD-append, List·getD-eq-default}
-use lib.Seq.{getD-append-add, ext-getD, getD-set-same, getD-set-other}
+use lib.ListN.{length, getD, set, List·getD-eq-default}
+use lib.Seq.{ext-getD, getD-set-same, getD-set-other}
 use Rattle.rules.specs.Counting.{first, forEach, table, every}
 use Rattle.rules.specs.Limits.{maxVariables, pairBytes, countBytes}
-use Rattle.rules.specs.Task.{Pair, Task, pair, n}
+use Rattle.rules.specs.Task.{Pair, pair}
 use Rattle.rules.specs.File.{byte, pairsAt, actionIn}
-use Rattle.rules.specs.Walk.{State, holds, setPairs, startState}
+use Rattle.rules.specs.Walk.{State, holds, setPairs}
 use Rattle.rules.proofs.Bools.{either, clash, below-or, not-true, not-false}
 use Rattle.rules.proofs.Counting.{every-table, each-in-table, length-table, getD-table, first-is, first-none}
 use Rattle.rules.proofs.Moves.{length-setPairs}
@@ -131,10 +131,14 @@ filled-next start σ x v l e h y b =
     ⊎-elim (λ c. getD-set-other σ x y v 0 (λ q. omega arith) ∙ h y c)
     (λ c. let q : y ≡ x = omega arith in ap (λ k. getD (set σ x v) k 0) q ∙ getD-set-same σ x v 0 l ∙ e ∙ ap (byte start) (sym q)) (below-or y x)
 
+pub length-startValues : (start : List ℕ) → length (startValues start) ≡ maxVariables
+unfolding startValues
+length-startValues start = length-table maxVariables (byte start)
+
 pub start-filled : (start σ : State) (x : ℕ) → length σ ≡ maxVariables → maxVariables ≤ x → Filled start σ x → σ ≡ startValues start
 unfolding startValues
 start-filled start σ x l g h =
-    ext-getD 0 σ (startValues start) (omega (arith, length-table maxVariables (byte start))) (λ y b.
+    ext-getD 0 σ (startValues start) (omega (arith, length-startValues start)) (λ y b.
     h y (omega arith) ∙ sym (getD-table maxVariables (byte start) 0 y (omega arith)))
 
 -- values from n on are 0
@@ -142,24 +146,8 @@ pub start-behind : (start : List ℕ) (x : ℕ) → length start ≤ x → getD 
 unfolding startValues
 start-behind start x l =
     ⊎-elim (λ b. getD-table maxVariables (byte start) 0 x b ∙ List·getD-eq-default start 0 l)
-    (λ b. List·getD-eq-default (startValues start) 0 (omega (arith, length-table maxVariables (byte start))))
+    (λ b. List·getD-eq-default (startValues start) 0 (omega (arith, length-startValues start)))
     (below-or x maxVariables)
-
--- they are the state in which the walk of a task starts
-pub start-is : (T : Task) → length (T .start) ≡ n T → n T ≤ maxVariables → startValues (T .start) ≡ startState T
-unfolding startState
-start-is T e l =
-    let zeros : List ℕ = replicate (maxVariables - n T) 0 in
-    sym (start-filled (T .start) (T .start ++ zeros) maxVariables
-    (omega (arith, length-append (T .start) zeros, length-replicate {A = ℕ} (maxVariables - n T) 0)) (omega arith) (λ x b.
-    ⊎-elim (λ c. List·getD-append (T .start) zeros 0 x c)
-    (λ c.
-    let p : x ≡ length (T .start) + (x - n T) = omega arith in
-    ap (λ k. getD (T .start ++ zeros) k 0) p
-    ∙ getD-append-add (T .start) zeros (x - n T) 0
-    ∙ getD-replicate {A = ℕ} (maxVariables - n T) (x - n T) 0 0 (omega arith)
-    ∙ sym (List·getD-eq-default (T .start) 0 c))
-    (below-or x (length (T .start)))))
 
 -- ---- the action that begins a stretch
 
