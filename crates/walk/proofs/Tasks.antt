@@ -1,7 +1,7 @@
 -- What the walk's functions promise, in the words of the rules' walk of a task: a caller that knows the task's start, goal and action to be
 -- those of the bytes that it lends has the rules' own definitions. And values from n on stay 0, whatever is carried out.
 -- Assumes nothing.
-use mathlib.Core.Path.{_≡_, refl, sym, ap, _∙_}
+use mathlib.Core.Path.{_≡_, sym, ap, _∙_}
 use mathlib.Core.Logic.{⊎-elim}
 use mathlib.Core.Bool.{not}
 use mathlib.Core.List.{List, [], _++_}
@@ -11,14 +11,14 @@ use lib.ListN.{length, getD, replicate, length-append, length-replicate, getD-re
 use lib.Seq.{getD-append-add}
 use Rattle.rules.specs.Counting.{first, every}
 use Rattle.rules.specs.Limits.{maxVariables}
-use Rattle.rules.specs.Task.{Pair, Task, n, A, pair, action}
+use Rattle.rules.specs.Task.{Task, n, A, pair, action}
 use Rattle.rules.specs.File.{actionIn}
 use Rattle.rules.specs.Walk.{State, startState, holds, applies, setPairs, apply, entry, afterEntry, stateAt}
 use Rattle.rules.proofs.Bools.{below-or}
 use Rattle.rules.proofs.Valid.{WellFormed}
 use Rattle.rules.proofs.Moves.{length-setPairs, set-pairs-at}
 use Rattle.walk.specs.Lent.{startValues, goalIn, firstUnmet}
-use Rattle.walk.proofs.Moves.{start-filled, start-behind, length-startValues}
+use Rattle.walk.proofs.Loops.{start-filled, start-behind, length-startValues}
 
 -- ---- the functions' answers
 

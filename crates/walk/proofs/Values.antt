@@ -1,10 +1,10 @@
 -- The values of a state that lies in memory: they are lent as a `&mut [u8]` where they lie, and come back.
 --     stored, loaded   a state in a local is its machine value and what it owns, each way
 --     Kept             what is left of the state while its values are lent for ν under the name δ: the lender's part, and what makes the state of them again
---     lends-values     the state h lies at (b, o)  ⊢ ⇛ ∃ δ. its values are 96, and own (the `&ν mut [u8]` of them) ∗ Kept δ
+--     lends-values     the state h lies at (b, o)  ⊢ ⇛ ∃ δ. own (the `&ν mut [u8]` of its values, with the count 96) ∗ Kept δ
 --     values-back      [†ν] ∗ Kept δ ∗ finally δ zs  ⊢ ⇛ (the state with the values zs lies at (b, o))
 -- Assumes `Given`.
-use mathlib.Core.Path.{_≡_, refl, sym, _∙_, ap, subst}
+use mathlib.Core.Path.{_≡_, refl, sym, subst}
 use Prim.Native.Nat.{ℕ, _+_}
 use mathlib.Core.List.{List, [], _∷_, map, map-id}
 use lib.ListN.{length}
@@ -17,10 +17,9 @@ use base.Logic.{SProp, ent, sep, ex, guard, emp, id⊢}
 use base.Fml.{Lft, GName, Fml, fsep, fat, flent, fdead, ftrue}
 use prog.Wp.{Heap}
 use ghost.Atoms.{Atoms, sem}
-use types.Kit.{Given, Item, ‵, raw, _⊛_, ⋆, mean, some, given, later, _$_, _∵_, !, qed, by, move, use0, use1, use2, use3, drop, split, join, pick, rewrite, fsplit, fjoin, fpick, fpack, feqL, feqI, frame, await, updating, now as at-once, show, check, done}
+use types.Kit.{Given, Item, ‵, raw, _⊛_, ⋆, mean, some, later, _$_, !, qed, by, move, use0, use1, use3, drop, split, pick, rewrite, fsplit, fjoin, fpick, fpack, feqL, frame, await, updating, now as at-once, show, check, done}
 use types.SemTy.{cells, Arr}
 use types.Share.{arr-parts}
-use denote.RattleType.{RattleType}
 use denote.Laws.{Is, shows}
 use denote.Memory.{mem, partAt, partOf, cellAt, shares}
 use denote.Steps.{peeks}
@@ -36,17 +35,14 @@ use denote.Struct.Laws as LL
 use denote.Struct.Steps.{spelt}
 use denote.Struct.Members.{Member, rowsOf}
 use denote.Struct.Parts.{PartsBack}
-use denote.Struct.Pick.{oneAt, restAt, record-field-out, record-field-back}
+use denote.Struct.Pick.{record-field-out, record-field-back}
+use Rattle.rules.specs.Limits.{maxVariables}
 use Rattle.walk.specs.declared.State.{State}
 use Rattle.walk.proofs.State as T
 use Rattle.walk.proofs.State.Laws as T′
 
--- how many values a state has
-abbrev pub size : ℕ
-size = 96
-
 abbrev members : List Member
-members = record { row = Array u8 size; ty = tyArray (tyInt w8) size } ∷ []
+members = record { row = Array u8 maxVariables; ty = tyArray (tyInt w8) maxVariables } ∷ []
 
 rows-are : rowsOf members ≡ fields T.the-type
 rows-are = refl
@@ -69,7 +65,7 @@ lent δ b o ys = record { ptr = (b, first-value o); name = δ; now = ys }
 abbrev pub machine : State → Val
 machine h = LL.val T.the-type T′.the-laws h
 
-room : Room u8 size
+room : Room u8 maxVariables
 room = (lit< tt, lit< tt)
 
 module _ {M : Type 1} (𝓤 : URA M) (H : Heap 𝓤) (A : Atoms 𝓤) (W : Given 𝓤 H A) (b o : ℕ) where
@@ -79,10 +75,10 @@ module _ {M : Type 1} (𝓤 : URA M) (H : Heap 𝓤) (A : Atoms 𝓤) (W : Given
   abbrev Back : SProp 𝓤
   Back = PartsBack 𝓤 H A fullShare (T.struct .name) members b o
 
-  values-out : (h : State) → ent 𝓤 ⟦ lies h b o ⟧ (sep 𝓤 ⟦ partAt (Array u8 size) fullShare (map (λ v. v) (h .values)) b (first-value o) ⟧ (sep 𝓤 ⟦ ftrue ⟧ Back))
+  values-out : (h : State) → ent 𝓤 ⟦ lies h b o ⟧ (sep 𝓤 ⟦ partAt (Array u8 maxVariables) fullShare (map (λ v. v) (h .values)) b (first-value o) ⟧ (sep 𝓤 ⟦ ftrue ⟧ Back))
   values-out h = record-field-out 𝓤 H A W fullShare (T.struct .name) members State (T.the-type .to) (T.the-type .to-one) (LL.lawfuls 𝓤 H A W (T.struct .parts) T′.the-laws) h b o 0
 
-  values-in : (zs : List ℕ) → ent 𝓤 (sep 𝓤 ⟦ partAt (Array u8 size) fullShare (map (λ v. v) zs) b (first-value o) ⟧ (sep 𝓤 ⟦ ftrue ⟧ Back)) ⟦ lies (with-values zs) b o ⟧
+  values-in : (zs : List ℕ) → ent 𝓤 (sep 𝓤 ⟦ partAt (Array u8 maxVariables) fullShare (map (λ v. v) zs) b (first-value o) ⟧ (sep 𝓤 ⟦ ftrue ⟧ Back)) ⟦ lies (with-values zs) b o ⟧
   values-in zs = record-field-back 𝓤 H A W fullShare (T.struct .name) members State (T.the-type .to) (T.the-type .to-one) (with-values zs) b o 0
 
   -- the state in a local, as its machine value
@@ -109,17 +105,17 @@ module _ {M : Type 1} (𝓤 : URA M) (H : Heap 𝓤) (A : Atoms 𝓤) (W : Given
   module _ (ν : Lft) where
     -- what is left of the state while its values are lent
     abbrev pub Kept : GName → Item 𝓤
-    Kept δ = ‵ (flent ν (Held u8 size b (first-value o) δ)) ⊛ raw Back
+    Kept δ = ‵ (flent ν (Held u8 maxVariables b (first-value o) δ)) ⊛ raw Back
 
     abbrev pub Lent : Lifetime → List ℕ → GName → Item 𝓤
-    Lent ℓ ys δ = ‵ (MutSlice ℓ ν u8 .own (lent δ b o ys) (sliceVal (b, first-value o) size ∷ [])) ⊛ Kept δ
+    Lent ℓ ys δ = ‵ (MutSlice ℓ ν u8 .own (lent δ b o ys) (sliceVal (b, first-value o) maxVariables ∷ [])) ⊛ Kept δ
 
     pub lends-values : (ℓ : Lifetime) (h : State) → ent 𝓤 ⟦ lies h b o ⟧ (H .⇛ (ex 𝓤 (λ (δ : GName). mean 𝓤 H A (Lent ℓ (h .values) δ))))
     lends-values ℓ h =
         qed W (‵ (lies h b o) ∷ []) {P = H .⇛ (ex 𝓤 (λ (δ : GName). mean 𝓤 H A (Lent ℓ (h .values) δ)))} (updating ! $
-        use1 W (‵ (partAt (Array u8 size) fullShare (map (λ v. v) (h .values)) b (first-value o)) ⊛ (‵ ftrue ⊛ raw Back)) (values-out h) $ split ! $
-        rewrite ! 0 (λ (ys : List ℕ). ‵ (partAt (Array u8 size) fullShare ys b (first-value o))) (map-id (h .values)) refl $
-        use1 W (‵ (arr-parts (shares u8) size .part fullShare (h .values) b (first-value o))) (array-apart 𝓤 H A W u8 fullShare tt size (h .values) b (first-value o)) $ fsplit ! $ feqL ! (λ e.
+        use1 W (‵ (partAt (Array u8 maxVariables) fullShare (map (λ v. v) (h .values)) b (first-value o)) ⊛ (‵ ftrue ⊛ raw Back)) (values-out h) $ split ! $
+        rewrite ! 0 (λ (ys : List ℕ). ‵ (partAt (Array u8 maxVariables) fullShare ys b (first-value o))) (map-id (h .values)) refl $
+        use1 W (‵ (arr-parts (shares u8) maxVariables .part fullShare (h .values) b (first-value o))) (array-apart 𝓤 H A W u8 fullShare tt maxVariables (h .values) b (first-value o)) $ fsplit ! $ feqL ! (λ e.
         use1 W (‵ (cells (mem u8) (h .values) b (first-value o))) (whole-in 𝓤 H A W u8 (h .values) b (first-value o)) $
         use1 W (later (some (λ (δ : GName). ‵ (MutSlice ℓ ν u8 .own (lent δ b o (h .values)) (sliceVal (b, first-value o) (length (h .values)) ∷ [])) ⊛ ‵ (flent ν (Held u8 (length (h .values)) b (first-value o) δ)))))
         (lends-slice 𝓤 H A W u8 ℓ ν (h .values) b (first-value o) (subst (Room u8) (sym e) room)) $ await ! tt $ pick ! (λ δ. split ! $
@@ -131,9 +127,9 @@ module _ {M : Type 1} (𝓤 : URA M) (H : Heap 𝓤) (A : Atoms 𝓤) (W : Given
     pub values-back : (δ : GName) (zs : List ℕ) → ent 𝓤 (sep 𝓤 (A .dead ν) (sep 𝓤 (mean 𝓤 H A (Kept δ)) ⟦ finally u8 δ zs ⟧)) (H .⇛ ⟦ lies (with-values zs) b o ⟧)
     values-back δ zs =
         qed W (‵ (fdead ν) ∷ Kept δ ∷ ‵ (finally u8 δ zs) ∷ []) {P = H .⇛ ⟦ lies (with-values zs) b o ⟧} (updating ! $ move ! (1 ∷ []) $ split ! $ move ! (2 ∷ 0 ∷ 3 ∷ []) $
-        use3 W (later (‵ (Arr (mem u8) size .lies zs b (first-value o)))) (slice-back 𝓤 H A W u8 ν δ zs size b (first-value o)) $ await ! tt $ fsplit ! $ move ! (1 ∷ []) $
+        use3 W (later (‵ (Arr (mem u8) maxVariables .lies zs b (first-value o)))) (slice-back 𝓤 H A W u8 ν δ zs maxVariables b (first-value o)) $ await ! tt $ fsplit ! $ move ! (1 ∷ []) $
         use1 W (‵ (row u8 fullShare zs b (first-value o))) (whole-out 𝓤 H A W u8 zs b (first-value o)) $ move ! (1 ∷ 0 ∷ []) $ fjoin ! $
-        use1 W (‵ (partAt (Array u8 size) fullShare zs b (first-value o))) (array-whole 𝓤 H A W u8 fullShare size zs b (first-value o)) $
-        rewrite ! 0 (λ (ys : List ℕ). ‵ (partAt (Array u8 size) fullShare ys b (first-value o))) (sym (map-id zs)) refl $
+        use1 W (‵ (partAt (Array u8 maxVariables) fullShare zs b (first-value o))) (array-whole 𝓤 H A W u8 fullShare maxVariables zs b (first-value o)) $
+        rewrite ! 0 (λ (ys : List ℕ). ‵ (partAt (Array u8 maxVariables) fullShare ys b (first-value o))) (sym (map-id zs)) refl $
         -- [the array; what makes the state again]
         use0 W (‵ ftrue) (id⊢ 𝓤 (emp 𝓤)) $ move ! (1 ∷ 0 ∷ 2 ∷ []) $ at-once ! $ by ! (values-in zs))

@@ -3,7 +3,7 @@ ghost use mathlib.Core.Path.{_≡_};
 ghost use Prim.Native.Nat.{_+_, _*_, _<_, _^_};
 ghost use lib.ListN.{set};
 ghost use Rattle.rules.specs.Counting.{every};
-ghost use Rattle.rules.specs.Limits.{pairBytes};
+ghost use Rattle.rules.specs.Limits.{byteValues, pairBytes};
 ghost use Rattle.rules.specs.File.{byte, actionIn, pairsAt};
 ghost use Rattle.rules.specs.Walk.{holds, setPairs};
 ghost use Rattle.walk.specs.Lent.{pairAt, goalIn, firstUnmet, startValues};
@@ -16,7 +16,7 @@ const PAIR_BYTES: usize = 2;
 
 // The state of a walk: the value of each variable, and 0 from n on.
 pub struct State {
-    pub values: [u8; 96],
+    pub values: [u8; MAX_VARIABLES],
 }
 
 // The byte at a place; past the end it is 0.
@@ -31,7 +31,7 @@ fn byte_at(bytes: &[u8], i: usize) -> u8
 
 // The byte at a place as a number.
 fn number_at(bytes: &[u8], i: usize) -> usize
-    ensures { λ r. ⌜ (r ≡ byte (now (bytes .entry)) i) × (r < 256) ⌝ }
+    ensures { λ r. ⌜ (r ≡ byte (now (bytes .entry)) i) × (r < byteValues) ⌝ }
 {
     byte_at(bytes, i) as usize
 }
@@ -40,7 +40,7 @@ fn number_at(bytes: &[u8], i: usize) -> usize
 pub fn start(body: &[u8]) -> State
     ensures { λ r. ⌜ r .values ≡ startValues (now (body .entry)) ⌝ }
 {
-    let mut values = [0; 96];
+    let mut values = [0; MAX_VARIABLES];
     let mut x = 0;
     while x < MAX_VARIABLES {
         values[x] = byte_at(body, x);
@@ -57,41 +57,34 @@ fn pair_holds(values: &[u8], pairs: &[u8], at: usize) -> bool
     byte_at(values, number_at(pairs, at)) == byte_at(pairs, at + 1)
 }
 
-// All pairs from a place on hold.
-fn all_hold(values: &[u8], pairs: &[u8], at: usize, count: usize) -> bool
+// The first of the pairs from a place on that does not hold, or how many there are.
+fn first_unmet(values: &[u8], pairs: &[u8], at: usize, count: usize) -> usize
     requires { ⌜ at + pairBytes * count < 2 ^ 64 ⌝ }
-    ensures { λ r. ⌜ r ≡ every (holds (now (values .entry))) (pairsAt (now (pairs .entry)) at count) ⌝ }
+    ensures { λ r. ⌜ r ≡ firstUnmet (now (values .entry)) (pairsAt (now (pairs .entry)) at count) ⌝ }
 {
     let mut i = 0;
     while i < count {
         if !pair_holds(values, pairs, at + PAIR_BYTES * i) {
-            return false;
+            return i;
         }
         i += 1;
     }
-    true
+    i
 }
 
 // The action that begins `action` applies: all its preconditions hold.
 pub fn applies(values: &[u8], action: &[u8]) -> bool
     ensures { λ r. ⌜ r ≡ every (holds (now (values .entry))) (actionIn (now (action .entry)) .preconditions) ⌝ }
 {
-    all_hold(values, action, COUNT_BYTES, number_at(action, 0))
+    let count = number_at(action, 0);
+    first_unmet(values, action, COUNT_BYTES, count) == count
 }
 
 // The first goal pair that does not hold, or how many there are.
 pub fn unmet(values: &[u8], goal: &[u8]) -> usize
     ensures { λ r. ⌜ r ≡ firstUnmet (now (values .entry)) (goalIn (now (goal .entry))) ⌝ }
 {
-    let count = goal.len() / PAIR_BYTES;
-    let mut i = 0;
-    while i < count {
-        if !pair_holds(values, goal, PAIR_BYTES * i) {
-            return i;
-        }
-        i += 1;
-    }
-    i
+    first_unmet(values, goal, 0, goal.len() / PAIR_BYTES)
 }
 
 // Sets a variable to a value; where there is no such variable nothing changes.
@@ -117,7 +110,7 @@ fn set_pairs(values: &mut [u8], pairs: &[u8], at: usize, count: usize)
 }
 
 // The action that begins `action` sets the variables of its effects and no others.
-pub fn set_effects(values: &mut [u8], action: &[u8])
+fn set_effects(values: &mut [u8], action: &[u8])
     ensures { λ _. ⌜ now (values .exit) ≡ setPairs (now (values .entry)) (actionIn (now (action .entry)) .effects) ⌝ }
 {
     let at = COUNT_BYTES + PAIR_BYTES * number_at(action, 0);

@@ -46,7 +46,7 @@ fn print_state(values: &[u8], goal: &[u8]) {
 // How many bytes the action takes that begins `rest`.
 fn bytes(rest: &[u8]) -> usize
     requires { ⌜ 1 < length (now rest) ⌝ }
-    ensures { λ r. ⌜ (1 < r) × (r < 2000) ⌝ }
+    ensures { λ r. ⌜ (1 < r) × (r < 1023) ⌝ }
 {
     2 + 2 * (wide(rest[0]) + wide(rest[1]))
 }

@@ -18,7 +18,7 @@ use prog.Wp.{Heap, Calls, Loops, WpFn, Tables}
 use ghost.Atoms.{Atoms}
 use contract.Monad.{Fun, fact}
 use contract.Running.{givenOf, tables, tablesOf}
-use types.Kit.{Given, Item, ‵, raw, some, later, _⊛_, ⋆, _$_, _∵_, !, qed, by, move, keep, drop, use1, use3, split, join, pick, fsplit, fsplit3, fjoin, fjoin3, feqL, feqI, suffices, frame, await, done}
+use types.Kit.{Given, Item, ‵, raw, some, later, _⊛_, ⋆, _$_, _∵_, !, qed, by, move, keep, drop, use1, use3, split, join, pick, fsplit, fsplit3, fjoin, fjoin3, feqI, suffices, frame, await, done}
 use types.Run.{look, init, forget, stop, hop, fld, from, load, lit, addr, unit-lit, of-opd, and-then, no-more, assigns, land, returns, enter, alloc1, alloc0, params1, pass1, pass0, free1, free0}
 use types.Part.{agg}
 use types.Mut.{open-ref, close-ref}
@@ -42,11 +42,12 @@ use denote.Triple.Table.{entered, cited}
 use denote.Triple.Walked.{says, Stays, stay-ref, stay-dropped, walkOf, goes-ref, goes-dropped, Walks, ends-at, walked, walk-meets}
 use denote.Exit.{yes}
 use denote.Signature.{plain, shrSliceOf}
+use Rattle.rules.specs.Limits.{maxVariables}
 use Rattle.rules.specs.File.{actionIn}
 use Rattle.rules.specs.Walk.{setPairs}
 use Rattle.walk.specs.declared.State.{State}
 use Rattle.walk.proofs.State as T
-use Rattle.walk.proofs.Values.{size, lies, with-values, first-value, lent, Kept, Lent, lends-values, values-back}
+use Rattle.walk.proofs.Values.{lies, with-values, first-value, lent, Lent, lends-values, values-back}
 use Rattle.walk.proofs.set_effects as set-effects
 use Rattle.walk.proofs.set_effects.Symbol as set-effects-def
 use Rattle.walk.proofs.set_effects.Symbol.{name as #walk·set-effects}
@@ -75,7 +76,7 @@ module _ {M : Type 1} (𝓤 : URA M) (H : Heap 𝓤) (A : Atoms 𝓤) (W : Given
   v = sliceVal (action .ptr) (length (action .now))
 
   abbrev s : Val
-  s = sliceVal (b, first-value o) size
+  s = sliceVal (b, first-value o) maxVariables
 
   abbrev vals : List Val × (List Val × Unit {0})
   vals = (vptr b o ∷ [], (v ∷ [], tt))

@@ -1,7 +1,7 @@
 -- `pair_holds` meets its contract.
 -- Assumes nothing.
 use borrow.Author.Needs.{needs}
-use Rattle.walk.proofs.Moves.{holds-is}
+use Rattle.walk.proofs.Loops.{holds-is}
 use Rattle.walk.proofs.pair_holds.Statement.{statement}
 use Rattle.walk.proofs.pair_holds.Tie as tie
 

@@ -1,7 +1,7 @@
 -- `set_effects` meets its contract.
 -- Assumes nothing.
 use borrow.Author.Needs.{needs}
-use Rattle.walk.proofs.Moves.{effects-set}
+use Rattle.walk.proofs.Loops.{effects-set}
 use Rattle.walk.proofs.set_effects.Statement.{statement}
 use Rattle.walk.proofs.set_effects.Tie as tie
 

@@ -2,12 +2,10 @@
 -- Assumes nothing.
 use mathlib.Core.Path.{_≡_}
 use Prim.Native.Nat.{_≤_, _-_}
-use native.Mathlib.Omega.{arith}
 use borrow.Author.Needs.{needs}
-use lib.ListN.{length}
 use Rattle.rules.specs.File.{pairsAt}
 use Rattle.rules.specs.Walk.{setPairs}
-use Rattle.walk.proofs.Moves.{set-none, set-next, set-all, set-keeps}
+use Rattle.walk.proofs.Loops.{set-none, set-next, set-all, set-keeps}
 use Rattle.walk.proofs.set_pairs.Statement.{statement}
 use Rattle.walk.proofs.set_pairs.Tie as tie
 

@@ -5,7 +5,7 @@ use Prim.Native.Nat.{_≤_, _-_}
 use borrow.Author.Needs.{needs}
 use lib.ListN.{length}
 use Rattle.rules.specs.Limits.{maxVariables}
-use Rattle.walk.proofs.Moves.{Filled, filled-next, start-filled}
+use Rattle.walk.proofs.Loops.{Filled, filled-next, start-filled}
 use Rattle.walk.proofs.start.Statement.{statement}
 use Rattle.walk.proofs.start.Tie as tie
 

@@ -7,7 +7,7 @@ use Rattle.walk_cases.proofs.walk_on.Statement.{statement}
 use Rattle.walk_cases.proofs.walk_on.Tie as tie
 
 abbrev Inv-loop : tie.InvT-loop
-Inv-loop body actions goal state₀ at₀ t7 t8 t9 state at = at ≤ length actions + 2000
+Inv-loop body actions goal state₀ at₀ t7 t8 t9 state at = at ≤ length actions + 1023
 
 abbrev μ-loop : tie.MeasureT-loop
 μ-loop body actions goal state₀ at₀ t7 t8 t9 state at = length actions - at

@@ -4,21 +4,21 @@ use mathlib.Core.Path.{_≡_, refl, sym, ap, _∙_}
 use mathlib.Core.Bool.{Bool, true, false, not}
 use mathlib.Core.Logic.{⊎-elim}
 use mathlib.Core.List.{List, [], _∷_, _++_}
-use Prim.Native.Nat.{ℕ, zero, suc, _+_, _-_, _*_, _/_, _≤_, _<_}
+use Prim.Native.Nat.{ℕ, _+_, _-_, _*_, _≤_, _<_}
 use native.Mathlib.Omega.{arith}
 use native.Mathlib.Numerals.{add-one}
 use lib.Dec.{eqb}
 use lib.ListN.{length, getD, set, List·getD-eq-default}
 use lib.Seq.{ext-getD, getD-set-same, getD-set-other}
-use Rattle.rules.specs.Counting.{first, forEach, table, every}
+use Rattle.rules.specs.Counting.{first, forEach, every}
 use Rattle.rules.specs.Limits.{maxVariables, pairBytes, countBytes}
 use Rattle.rules.specs.Task.{Pair, pair}
 use Rattle.rules.specs.File.{byte, pairsAt, actionIn}
 use Rattle.rules.specs.Walk.{State, holds, setPairs}
-use Rattle.rules.proofs.Bools.{either, clash, below-or, not-true, not-false}
-use Rattle.rules.proofs.Counting.{every-table, each-in-table, length-table, getD-table, first-is, first-none}
+use Rattle.rules.proofs.Bools.{below-or, not-false, same-truth}
+use Rattle.rules.proofs.Counting.{length-table, getD-table, first-is, first-none, none-at, none-test, every-getD, every-by}
 use Rattle.rules.proofs.Moves.{length-setPairs}
-use Rattle.walk.specs.Lent.{pairAt, startValues, goalIn, firstUnmet}
+use Rattle.walk.specs.Lent.{pairAt, startValues, firstUnmet}
 
 -- ---- pairs one after the other
 
@@ -50,75 +50,56 @@ pub set-all : (σ τ : State) (s : List ℕ) (at i count : ℕ) → i ≤ count 
     → τ ≡ setPairs σ (pairsAt s at count)
 set-all σ τ s at i count l g h = let e : count ≡ i = omega arith in rw e h
 
--- no pair is looked at yet, one more holds, all hold, one does not; b is what was found of the pair
-pub held-none : (σ : State) (s : List ℕ) (at : ℕ) → every (holds σ) (pairsAt s at 0) ≡ true
-unfolding every pairsAt forEach
-held-none σ s at = refl
+-- ---- the first pair that does not hold
 
-pub held-next : (σ : State) (s : List ℕ) (at i : ℕ) (b : Bool) → every (holds σ) (pairsAt s at i) ≡ true
-    → b ≡ holds σ (pairAt s (at + pairBytes * i)) → not b ≡ false → every (holds σ) (pairsAt s at (i + 1)) ≡ true
+abbrev unmet : State → List Pair → ℕ → Bool
+unmet σ ps i = not (holds σ (pair ps i))
+
+length-pairs : (s : List ℕ) (at count : ℕ) → length (pairsAt s at count) ≡ count
 unfolding pairsAt
-held-next σ s at i b h e t =
-    let p : ℕ → Pair = λ i. pairAt s (at + pairBytes * i) in
-    every-table (holds σ) (i + 1) p (λ j l.
-    ⊎-elim (λ c. each-in-table (holds σ) i p h j c)
-    (λ c. let q : j ≡ i = omega arith in ap (λ k. holds σ (p k)) q ∙ sym e ∙ not-false b t) (below-or j i))
+length-pairs s at count = length-table count (λ i. pairAt s (at + pairBytes * i))
 
-pub held-all : (σ : State) (s : List ℕ) (at i count : ℕ) → i ≤ count → count ≤ i → every (holds σ) (pairsAt s at i) ≡ true
-    → true ≡ every (holds σ) (pairsAt s at count)
-held-all σ s at i count l g h = let e : count ≡ i = omega arith in rw e (sym h)
-
-pub held-not : (σ : State) (s : List ℕ) (at i count : ℕ) (b : Bool) → i < count → b ≡ holds σ (pairAt s (at + pairBytes * i)) → not b ≡ true
-    → false ≡ every (holds σ) (pairsAt s at count)
+pair-of : (s : List ℕ) (at count i : ℕ) → i < count → pair (pairsAt s at count) i ≡ pairAt s (at + pairBytes * i)
 unfolding pairsAt
-held-not σ s at i count b l e t =
-    ⊎-elim
-    (λ h. clash (e ∙ each-in-table (holds σ) count (λ i. pairAt s (at + pairBytes * i)) h i l) (not-true b t))
-    (λ h. sym h)
-    (either (every (holds σ) (pairsAt s at count)))
+pair-of s at count i l = getD-table count (λ i. pairAt s (at + pairBytes * i)) (record { variable = 0; value = 0 }) i l
 
--- ---- the goal
+-- the pairs before i hold
+abbrev pub Met : State → List ℕ → ℕ → ℕ → Type 0
+Met σ s at i = (j : ℕ) → j < i → holds σ (pairAt s (at + pairBytes * j)) ≡ true
 
-length-goal : (s : List ℕ) → length (goalIn s) ≡ length s / pairBytes
-unfolding pairsAt
-length-goal s = length-table (length s / pairBytes) (λ i. pairAt s (0 + pairBytes * i))
+pub met-none : (σ : State) (s : List ℕ) (at : ℕ) → Met σ s at 0
+met-none σ s at j l = absurd (omega arith)
 
-goal-at : (s : List ℕ) (i : ℕ) → i < length s / pairBytes → pair (goalIn s) i ≡ pairAt s (pairBytes * i)
-unfolding pairsAt
-goal-at s i l =
-    let e : 0 + pairBytes * i ≡ pairBytes * i = omega arith in
-    getD-table (length s / pairBytes) (λ i. pairAt s (0 + pairBytes * i)) (record { variable = 0; value = 0 }) i l ∙ ap (pairAt s) e
-
--- the goal's pairs before i hold
-abbrev pub Met : State → List ℕ → ℕ → Type 0
-Met σ goal i = (j : ℕ) → j < i → holds σ (pairAt goal (pairBytes * j)) ≡ true
-
-pub met-none : (σ : State) (goal : List ℕ) → Met σ goal 0
-met-none σ goal j l = absurd (omega arith)
-
-pub met-next : (σ : State) (goal : List ℕ) (i : ℕ) (b : Bool) → Met σ goal i → b ≡ holds σ (pairAt goal (pairBytes * i)) → not b ≡ false
-    → Met σ goal (i + 1)
-met-next σ goal i b h e t j l =
+-- b is what was found of pair i
+pub met-next : (σ : State) (s : List ℕ) (at i : ℕ) (b : Bool) → Met σ s at i → b ≡ holds σ (pairAt s (at + pairBytes * i)) → not b ≡ false
+    → Met σ s at (i + 1)
+met-next σ s at i b h e t j l =
     ⊎-elim (λ c. h j c)
-    (λ c. let q : j ≡ i = omega arith in ap (λ k. holds σ (pairAt goal (pairBytes * k))) q ∙ sym e ∙ not-false b t) (below-or j i)
+    (λ c. let q : j ≡ i = omega arith in ap (λ k. holds σ (pairAt s (at + pairBytes * k))) q ∙ sym e ∙ not-false b t) (below-or j i)
 
-met-each : (σ : State) (goal : List ℕ) (i : ℕ) → i ≤ length goal / pairBytes → Met σ goal i → (j : ℕ) → j < i
-    → not (holds σ (pair (goalIn goal) j)) ≡ false
-met-each σ goal i l h j b = rw (goal-at goal j (omega arith), h j b)
+met-each : (σ : State) (s : List ℕ) (at count i : ℕ) → i ≤ count → Met σ s at i → (j : ℕ) → j < i → unmet σ (pairsAt s at count) j ≡ false
+met-each σ s at count i l h j b = rw (pair-of s at count j (omega arith), h j b)
 
-pub met-all : (σ : State) (goal : List ℕ) (i : ℕ) → i ≤ length goal / pairBytes → length goal / pairBytes ≤ i → Met σ goal i
-    → i ≡ firstUnmet σ (goalIn goal)
+pub met-all : (σ : State) (s : List ℕ) (at count i : ℕ) → i ≤ count → count ≤ i → Met σ s at i → i ≡ firstUnmet σ (pairsAt s at count)
 unfolding firstUnmet
-met-all σ goal i l g h =
-    let e : length (goalIn goal) ≡ i = omega (arith, length-goal goal) in
-    sym (rw e (first-none i _ (met-each σ goal i l h)))
+met-all σ s at count i l g h =
+    let e : length (pairsAt s at count) ≡ i = omega (arith, length-pairs s at count) in
+    sym (rw e (first-none i _ (met-each σ s at count i l h)))
 
-pub met-not : (σ : State) (goal : List ℕ) (i : ℕ) (b : Bool) → i < length goal / pairBytes → Met σ goal i
-    → b ≡ holds σ (pairAt goal (pairBytes * i)) → not b ≡ true → i ≡ firstUnmet σ (goalIn goal)
+pub met-not : (σ : State) (s : List ℕ) (at count i : ℕ) (b : Bool) → i < count → Met σ s at i
+    → b ≡ holds σ (pairAt s (at + pairBytes * i)) → not b ≡ true → i ≡ firstUnmet σ (pairsAt s at count)
 unfolding firstUnmet
-met-not σ goal i b l h e t =
-    sym (first-is (length (goalIn goal)) _ i (omega (arith, length-goal goal)) (rw (goal-at goal i l, ← e) t)
-    (met-each σ goal i (omega arith) h))
+met-not σ s at count i b l h e t =
+    sym (first-is (length (pairsAt s at count)) _ i (omega (arith, length-pairs s at count)) (rw (pair-of s at count i l, ← e) t)
+    (met-each σ s at count i (omega arith) h))
+
+-- all hold where there is none that does not
+every-holds : (σ : State) (ps : List Pair) → eqb (firstUnmet σ ps) (length ps) ≡ every (holds σ) ps
+unfolding firstUnmet
+every-holds σ ps =
+    let none : Pair = record { variable = 0; value = 0 } in
+    same-truth _ _ (λ t. every-by (holds σ) ps none (λ i l. not-false _ (none-at (length ps) (unmet σ ps) t i l)))
+    (λ t. none-test (length ps) (unmet σ ps) (λ i l. rw (every-getD (holds σ) ps none t i l)))
 
 -- ---- the start values
 
@@ -151,10 +132,12 @@ start-behind start x l =
 
 -- ---- the action that begins a stretch
 
-pub preconditions-hold : (r : Bool) (σ : State) (s : List ℕ) (p : ℕ) → p ≡ byte s 0 → r ≡ every (holds σ) (pairsAt s countBytes p)
-    → r ≡ every (holds σ) (actionIn s .preconditions)
+pub preconditions-hold : (σ : State) (s : List ℕ) (p r : ℕ) → p ≡ byte s 0 → r ≡ firstUnmet σ (pairsAt s countBytes p)
+    → eqb r p ≡ every (holds σ) (actionIn s .preconditions)
 unfolding actionIn
-preconditions-hold r σ s p e h = h ∙ rw e
+preconditions-hold σ s p r e h =
+    let ps : List Pair = pairsAt s countBytes p in
+    ap (λ k. eqb k p) h ∙ ap (eqb (firstUnmet σ ps)) (sym (length-pairs s countBytes p)) ∙ every-holds σ ps ∙ rw e
 
 pub effects-set : (σ τ : State) (s : List ℕ) (p e : ℕ) → p ≡ byte s 0 → e ≡ byte s 1 → τ ≡ setPairs σ (pairsAt s (countBytes + pairBytes * p) e)
     → τ ≡ setPairs σ (actionIn s .effects)
