@@ -7,6 +7,9 @@ pub mod Valid
 pub mod Contents
 pub mod Actions
 pub mod Files
+pub mod Loops
+pub mod PairBytes
+pub mod Rests
 pub mod Numbering
 pub mod EachClause
 pub mod Counts

@@ -1,0 +1,5 @@
+-- What the reader's contracts cite beside the rules.
+pub mod Stretches
+pub mod Bodies
+pub mod Index
+pub mod Numbers
