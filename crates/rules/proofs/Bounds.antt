@@ -14,8 +14,9 @@ use Rattle.rules.specs.Limits.{maxDomain, maxValues, maxActions, maxPair
 use Rattle.rules.specs.Task.{Task, n, d, S, A, action}
 use Rattle.rules.specs.Problem.{Problem, problem}
 use Rattle.rules.specs.Numbering.{N}
-use Rattle.rules.specs.Families.{Clause, family1, family2, family3, family4, family5, family6, family7, family8, families, formula, gives, supporters, C, clause}
-use Rattle.rules.proofs.Counting.{every-one, sumTo-le, sumTo-scale, sumTo-most, length-table, every-forEach, every-table, every-pair, every-when, every-joined, every-getD}
+use Rattle.rules.specs.Families.{Clause, formula, gives, supporters, C, clause}
+use Rattle.rules.proofs.Counting.{sumTo-le, sumTo-scale, sumTo-most, length-table, every-getD}
+use Rattle.rules.proofs.EachClause.{every-clause}
 use Rattle.rules.proofs.Valid.{WellFormed}
 use Rattle.rules.specs.Counts.{pairsBelow, sum, countTable}
 use Rattle.rules.proofs.Counts.{length-most, length-when, C-is}
@@ -75,41 +76,19 @@ module _ (P : Problem) (t : WellFormed (P .task)) where
   unfolding supporters
   supporters-few s x v = le-trans (length-most (A (P .task)) 1 _ (λ a l. length-when (gives P a x v) _)) (omega arith)
 
-  short1 : every short (family1 P) ≡ true
-  unfolding family1
-  short1 = every-table short _ _ (λ x l. refl)
-
-  short2 : every short (family2 P) ≡ true
-  unfolding family2
-  short2 = every-table short _ _ (λ i l. refl)
-
-  short3 : every short (family3 P) ≡ true
-  unfolding family3
-  short3 = every-forEach short _ _ (λ s b. every-table short _ _ (λ x l. rw length-table (omega (arith, le-leb, t .domain-small x l))))
-
-  short4 : every short (family4 P) ≡ true
-  unfolding family4
-  short4 = every-forEach short _ _ (λ s b. every-forEach short _ _ (λ x l. every-pair short _ _ (λ v w l h. every-one short _ refl)))
-
-  short5 : every short (family5 P) ≡ true
-  unfolding family5
-  short5 = every-forEach short _ _ (λ s b. every-forEach short _ _ (λ a l. every-table short _ _ (λ i l. refl)))
-
-  short6 : every short (family6 P) ≡ true
-  unfolding family6
-  short6 = every-forEach short _ _ (λ s b. every-forEach short _ _ (λ a l. every-table short _ _ (λ i l. refl)))
-
-  short7 : every short (family7 P) ≡ true
-  unfolding family7
-  short7 = every-forEach short _ _ (λ s b. every-forEach short _ _ (λ x l. every-table short _ _ (λ v l. omega (arith, le-leb, supporters-few s x v))))
-
-  short8 : every short (family8 P) ≡ true
-  unfolding family8
-  short8 = every-forEach short _ _ (λ s l. every-pair short _ _ (λ a b l h. every-when short (P .excludes a b) _ (λ e. every-one short _ refl)))
-
   pub all-short : every short (formula P) ≡ true
-  unfolding formula families every
-  all-short = every-joined short (families P) (rw (short1, short2, short3, short4, short5, short6, short7, short8))
+  all-short =
+      every-clause P short
+      (record {
+        in1 = λ x hx. refl;
+        in2 = λ i hi. refl;
+        in3 = λ s x hs hx. rw length-table (omega (arith, le-leb, t .domain-small x hx));
+        in4 = λ s x v w hs hx l hw. refl;
+        in5 = λ s a i hs ha hi. refl;
+        in6 = λ s a i hs ha hi. refl;
+        in7 = λ s x v hs hx hv. omega (arith, le-leb, supporters-few s x v);
+        in8 = λ s a b hs l hb e. refl;
+      })
 
   pub clause-bound : (c : ℕ) → c < C P → length (clause P c) ≤ maxLiterals
   unfolding C clause

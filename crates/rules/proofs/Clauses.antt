@@ -6,16 +6,16 @@ use mathlib.Core.Bool.{Bool, true, false, not, _||_}
 use mathlib.Core.List.{List, [], _∷_}
 use Prim.Native.Nat.{ℕ, suc, _+_, _-_, _≤_, _<_}
 use native.Mathlib.Omega.{arith}
-use lib.Dec.{lit<}
-use lib.ListN.{length, getD}
-use Rattle.rules.specs.Counting.{forEach, table, forPairs, when, every, any, joined}
+use lib.ListN.{length}
+use Rattle.rules.specs.Counting.{forEach, table, when, any}
 use Rattle.rules.specs.Task.{Task, n, d, A, startValue, pair, action}
 use Rattle.rules.specs.Problem.{Problem}
 use Rattle.rules.specs.Numbering.{valueNumber, actionNumber}
-use Rattle.rules.specs.Families.{Literal, plus, minus, Clause, pairNumber, gives, supporters, family1, family2, family3, family4, family5, family6, family7, family8, families, formula}
+use Rattle.rules.specs.Families.{Literal, plus, minus, Clause, pairNumber, gives, supporters, formula}
 use Rattle.rules.specs.Truth.{Model, literalTrue, clauseTrue, satisfies}
-use Rattle.rules.proofs.Bools.{either, clash, and-left, and-both, or-cases, or-left, or-right, not-true, not-false}
-use Rattle.rules.proofs.Counting.{every-one, the-one, every-forEach, each-of, every-table, each-in-table, every-pair, each-pair, every-when, each-when, each-joined, every-joined, any-forEach, one-of, any-at, any-where}
+use Rattle.rules.proofs.Bools.{either, clash, or-cases, or-left, or-right, not-true, not-false}
+use Rattle.rules.proofs.Counting.{any-forEach, one-of}
+use Rattle.rules.proofs.EachClause.{EachClause, each-clause, every-clause}
 
 -- ---- clauses under an assignment that gives every variable
 
@@ -107,49 +107,31 @@ module _ (P : Problem) where
         (rw (r .2) (or-left _ _ (r .3))))
 
     pub facts : satisfies (complete τ) (formula P) ≡ true → Facts τ
-    unfolding satisfies formula families family1 family2 family3 family4 family5 family6 family7 family8
+    unfolding satisfies
     facts h =
-        let family : (i : ℕ) → i < 8 → every isTrue (getD (families P) i []) ≡ true = each-joined isTrue (families P) h in
+        let c : EachClause P isTrue = each-clause P isTrue h in
         record {
-          starts = λ x l. one-true τ _ (each-in-table isTrue _ _ (family 0 (lit< tt)) x l);
-          reaches = λ i l. one-true τ _ (each-in-table isTrue _ _ (family 1 (lit< tt)) i l);
-          some-value = λ s x hs hx.
-              among τ _ _ (each-in-table isTrue _ _ (each-of isTrue _ _ (family 2 (lit< tt)) s hs) x hx);
-          one-value = λ s x v w hs hx l hw t u.
-              empty-false τ (implied τ _ _ (implied τ _ _ (the-one isTrue _ (each-pair isTrue _ _
-              (each-of isTrue _ _ (each-of isTrue _ _ (family 3 (lit< tt)) s hs) x hx) v w l hw)) t) u);
-          needs = λ s a i hs ha hi t.
-              one-true τ _ (implied τ _ _ (each-in-table isTrue _ _ (each-of isTrue _ _ (each-of isTrue _ _ (family 4 (lit< tt)) s hs) a ha) i hi) t);
-          causes = λ s a i hs ha hi t.
-              one-true τ _ (implied τ _ _ (each-in-table isTrue _ _ (each-of isTrue _ _ (each-of isTrue _ _ (family 5 (lit< tt)) s hs) a ha) i hi) t);
-          stays = λ s x v hs hx hv t.
-              supported s x v (implied τ _ _ (each-in-table isTrue _ _ (each-of isTrue _ _ (each-of isTrue _ _ (family 6 (lit< tt)) s hs) x hx) v hv) t);
-          excluded = λ s a b hs l hb e t u.
-              empty-false τ (implied τ _ _ (implied τ _ _ (the-one isTrue _ (each-when isTrue _ _
-              (each-pair isTrue _ _ (each-of isTrue _ _ (family 7 (lit< tt)) s hs) a b l hb) e)) t) u);
+          starts = λ x hx. one-true τ _ (c .in1 x hx);
+          reaches = λ i hi. one-true τ _ (c .in2 i hi);
+          some-value = λ s x hs hx. among τ _ _ (c .in3 s x hs hx);
+          one-value = λ s x v w hs hx l hw t u. empty-false τ (implied τ _ _ (implied τ _ _ (c .in4 s x v w hs hx l hw) t) u);
+          needs = λ s a i hs ha hi t. one-true τ _ (implied τ _ _ (c .in5 s a i hs ha hi) t);
+          causes = λ s a i hs ha hi t. one-true τ _ (implied τ _ _ (c .in6 s a i hs ha hi) t);
+          stays = λ s x v hs hx hv t. supported s x v (implied τ _ _ (c .in7 s x v hs hx hv) t);
+          excluded = λ s a b hs l hb e t u. empty-false τ (implied τ _ _ (implied τ _ _ (c .in8 s a b hs l hb e) t) u);
         }
 
     pub satisfied : Facts τ → satisfies (complete τ) (formula P) ≡ true
-    unfolding every satisfies formula families family1 family2 family3 family4 family5 family6 family7 family8
+    unfolding satisfies
     satisfied f =
-        every-joined isTrue (families P)
-        (and-both _ _ (every-table isTrue _ _ (λ x l. true-one τ _ (f .starts x l)))
-        (and-both _ _ (every-table isTrue _ _ (λ i l. true-one τ _ (f .reaches i l)))
-        (and-both _ _
-        (every-forEach isTrue _ _ (λ s hs. every-table isTrue _ _ (λ x hx. let r = f .some-value s x hs hx in true-among τ _ _ (r .0) (r .1) (r .2))))
-        (and-both _ _
-        (every-forEach isTrue _ _ (λ s hs. every-forEach isTrue _ _ (λ x hx. every-pair isTrue _ _ (λ v w l hw.
-        every-one isTrue _ (implies τ _ _ (λ t. implies τ _ _ (λ u. absurd (f .one-value s x v w hs hx l hw t u))))))))
-        (and-both _ _
-        (every-forEach isTrue _ _ (λ s hs. every-forEach isTrue _ _ (λ a ha. every-table isTrue _ _ (λ i hi.
-        implies τ _ _ (λ t. true-one τ _ (f .needs s a i hs ha hi t))))))
-        (and-both _ _
-        (every-forEach isTrue _ _ (λ s hs. every-forEach isTrue _ _ (λ a ha. every-table isTrue _ _ (λ i hi.
-        implies τ _ _ (λ t. true-one τ _ (f .causes s a i hs ha hi t))))))
-        (and-both _ _
-        (every-forEach isTrue _ _ (λ s hs. every-forEach isTrue _ _ (λ x hx. every-table isTrue _ _ (λ v hv.
-        implies τ _ _ (λ t. support s x v (f .stays s x v hs hx hv t))))))
-        (and-both _ _
-        (every-forEach isTrue _ _ (λ s hs. every-pair isTrue _ _ (λ a b l hb. every-when isTrue _ _ (λ e.
-        every-one isTrue _ (implies τ _ _ (λ t. implies τ _ _ (λ u. absurd (f .excluded s a b hs l hb e t u))))))))
-        refl))))))))
+        every-clause P isTrue
+        (record {
+          in1 = λ x hx. true-one τ _ (f .starts x hx);
+          in2 = λ i hi. true-one τ _ (f .reaches i hi);
+          in3 = λ s x hs hx. let r = f .some-value s x hs hx in true-among τ _ _ (r .0) (r .1) (r .2);
+          in4 = λ s x v w hs hx l hw. implies τ _ _ (λ t. implies τ _ _ (λ u. absurd (f .one-value s x v w hs hx l hw t u)));
+          in5 = λ s a i hs ha hi. implies τ _ _ (λ t. true-one τ _ (f .needs s a i hs ha hi t));
+          in6 = λ s a i hs ha hi. implies τ _ _ (λ t. true-one τ _ (f .causes s a i hs ha hi t));
+          in7 = λ s x v hs hx hv. implies τ _ _ (λ t. support s x v (f .stays s x v hs hx hv t));
+          in8 = λ s a b hs l hb e. implies τ _ _ (λ t. implies τ _ _ (λ u. absurd (f .excluded s a b hs l hb e t u)));
+        })

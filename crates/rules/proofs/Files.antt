@@ -9,7 +9,7 @@ use borrow.Author.Tests.{lt-ltb, eq-eqb}
 use lib.Dec.{ltb, eqb}
 use lib.ListN.{length, getD, length-append}
 use Rattle.rules.specs.Counting.{sumTo, every, joined}
-use Rattle.rules.specs.Limits.{maxFile, maxPairs, contentsBytes, contentsRows, pairBytes, countBytes}
+use Rattle.rules.specs.Limits.{maxFile, maxAction, byteValues, contentsBytes, contentsRows, pairBytes, countBytes}
 use Rattle.rules.specs.Task.{Pair, Action, Task, n, A, startValue, pair, action, Valid}
 use Rattle.rules.specs.File.{contentsRules, contentsVerdict, body, pairsAt, actionIn, rests, isWhole, taskOf, fileRules, fileVerdict, pairText, actionText, bodiesOf, bytes16, contentsFrom, fileOf}
 use Rattle.rules.specs.declared.Verdict.the-variants.{Accepted}
@@ -69,10 +69,7 @@ read-back T =
       actions = (ap (λ s. map actionIn (rests s)) (actions-body T) ∙ actions-back (T .actions)) i;
     }
 
-abbrev longestAction : ℕ
-longestAction = countBytes + pairBytes * (maxPairs + maxPairs)
-
-action-short : (T : Task) (a : Action) → ActionFine T a → length (actionText a) ≤ longestAction
+action-short : (T : Task) (a : Action) → ActionFine T a → length (actionText a) ≤ maxAction
 action-short T a f = omega (arith, length-actionText a, f)
 
 -- no valid task's file is over the longest
@@ -85,8 +82,8 @@ file-short T t =
       length-withContents (bodiesOf T) refl,
       length-pairText (T .goal),
       length-forEach (A T) text,
-      sumTo-le (A T) (λ a. length (text a)) (λ a. longestAction) (λ a l. action-short T (action T a) (t .actions-fine a l)),
-      sumTo-const (A T) longestAction,
+      sumTo-le (A T) (λ a. length (text a)) (λ a. maxAction) (λ a l. action-short T (action T a) (t .actions-fine a l)),
+      sumTo-const (A T) maxAction,
     )
 
 -- each valid task's file is accepted
@@ -105,9 +102,6 @@ well-formed-accepted T t =
     })
 
 -- ---- its bytes
-
-abbrev pub byteValues : ℕ
-byteValues = 256
 
 abbrev pub isByte : ℕ → Bool
 isByte b = ltb b byteValues

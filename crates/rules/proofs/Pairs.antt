@@ -1,41 +1,88 @@
--- Pairs read from bytes: pair i stands so many bytes further on, and whether it is at fault is told by it and the one before.
+-- The pair behind a number: where the pair i < j below m stands among all such pairs, and that each number below their count has one pair.
 -- Assumes nothing.
-use mathlib.Core.Path.{_≡_, refl, sym, ap, _∙_}
-use mathlib.Core.Bool.{Bool, true, false, not, _&&_}
-use mathlib.Core.List.{List, []}
-use Prim.Native.Nat.{ℕ, zero, suc, _+_, _*_, _<_}
+use mathlib.Core.Path.{_≡_, sym, ap, _∙_}
+use mathlib.Core.List.{[], _∷_}
+use Prim.Native.Nat.{ℕ, suc, _+_, _-_, _≤_, _<_}
 use native.Mathlib.Omega.{arith}
-use lib.Dec.{ltb}
-use lib.ListN.{length}
-use Rattle.rules.specs.Limits.{pairBytes}
-use Rattle.rules.specs.Task.{Pair, Task, n, d, pair, inside, rises, pairAtFault}
-use Rattle.rules.specs.File.{byte, pairsAt}
-use Rattle.rules.proofs.Counting.{length-table, getD-table}
+use lib.ListN.{getD}
+use Rattle.rules.specs.Counting.{sumTo, table, forPairs}
+use Rattle.rules.specs.Counts.{pairsBelow, pairsBefore}
+use Rattle.rules.proofs.Counting.{length-table, getD-table, Located, locate, same-part}
+use Rattle.rules.proofs.Counts.{pairs-before, pairs-all}
+use Rattle.rules.proofs.Places.{within-each, getD-each}
 
-module _ (s : List ℕ) (at count : ℕ) where
-  pub length-pairsAt : length (pairsAt s at count) ≡ count
-  unfolding pairsAt
-  length-pairsAt = length-table count _
+-- i and j are the pair with the number r: it stands behind the pairs with a first number below i, and behind those of i with a second number below j
+pub record PairAt (m r i j : ℕ) : Type 0 where
+  pub rising : i < j
+  pub below : j < m
+  pub is : r ≡ pairsBefore m i + (j - suc i)
 
-  pub pair-at : (i : ℕ) → i < count → pair (pairsAt s at count) i ≡ record { variable = byte s (at + pairBytes * i); value = byte s (at + pairBytes * i + 1) }
-  unfolding pairsAt
-  pair-at i h = getD-table count _ _ i h
+-- how many numbers above i are below m: so many pairs have the first number i
+abbrev above : ℕ → ℕ → ℕ
+above m i = m - suc i
 
--- pair i is above the one before it, by their bytes
-abbrev pub risesAt : List ℕ → ℕ → ℕ → Bool
-risesAt s at zero = true
-risesAt s at (suc i) = ltb (byte s (at + pairBytes * i)) (byte s (at + pairBytes * suc i))
+-- j is one of them, at the place j - suc i
+record IsAbove (m i j : ℕ) : Type 0 where
+  first-below : i < m
+  first-within : i ≤ m
+  place-below : j - suc i < above m i
+  at-place : suc i + (j - suc i) ≡ j
 
-pub rises-at : (s : List ℕ) (at count i : ℕ) → i < count → rises (pairsAt s at count) i ≡ risesAt s at i
-rises-at s at count zero h = refl
-rises-at s at count (suc i) h = rw (pair-at s at count (suc i) h, pair-at s at count i (omega arith))
+is-above : (m i j : ℕ) → i < j → j < m → IsAbove m i j
+is-above m i j l h = record { first-below = omega arith; first-within = omega arith; place-below = omega arith; at-place = omega arith }
 
-pub fault-at : (T : Task) (s : List ℕ) (at count i : ℕ) → i < count
-    → pairAtFault T (pairsAt s at count) i
-    ≡ not (ltb (byte s (at + pairBytes * i)) (n T) && ltb (byte s (at + pairBytes * i + 1)) (d T (byte s (at + pairBytes * i))) && risesAt s at i)
-unfolding pairAtFault
-fault-at T s at count i h = rw (pair-at s at count i h, rises-at s at count i h)
+-- ---- from the number to the pair
 
--- pairs behind it do not matter
-pub fault-alone : (T : Task) (s : List ℕ) (at count i : ℕ) → i < count → pairAtFault T (pairsAt s at (suc i)) i ≡ pairAtFault T (pairsAt s at count) i
-fault-alone T s at count i h = fault-at T s at (suc i) i (omega arith) ∙ sym (fault-at T s at count i h)
+pub pairs-next : (m i : ℕ) → i < m → pairsBefore m (suc i) ≡ pairsBefore m i + above m i
+unfolding sumTo
+pairs-next m i h = sym (pairs-before m (suc i) h) ∙ ap (λ p. p + above m i) (pairs-before m i (omega arith))
+
+-- the number i whose pairs begin at or before r and end behind it is the first of the pair, and the second follows from it
+pub pair-there : (m r i : ℕ) → i < m → pairsBefore m i ≤ r → r < pairsBefore m (suc i) → PairAt m r i (suc i + (r - pairsBefore m i))
+pair-there m r i h from to =
+    let q = second (pairsBefore m i) from (rw (pairs-next m i h) at to) in
+    record { rising = q .0; below = q .1; is = q .2 }
+  where
+    second : (start : ℕ) → start ≤ r → r < start + above m i
+        → (i < suc i + (r - start)) × (suc i + (r - start) < m) × (r ≡ start + (suc i + (r - start) - suc i))
+    second start from to = (omega arith, omega arith, omega arith)
+
+pub pair-exists : (m r : ℕ) → r < pairsBelow m → (i : ℕ) × (j : ℕ) × PairAt m r i j
+pair-exists m r h =
+    let l : Located m (above m) r = locate m (above m) r (rw (pairs-before m m (omega arith), pairs-all m) h) in
+    let start : sumTo (l .part) (above m) ≡ pairsBefore m (l .part) = pairs-before m (l .part) (omega arith) in
+    (l .part, suc (l .part) + l .place, record { rising = omega arith; below = omega arith; is = omega arith })
+
+-- ---- from the pair to its number
+
+is-there : (m r i j : ℕ) → PairAt m r i j → r ≡ sumTo i (above m) + (j - suc i)
+is-there m r i j p =
+    p .is ∙ ap (λ start. start + (j - suc i)) (sym (pairs-before m i (is-above m i j (p .rising) (p .below) .first-within)))
+
+pub pair-within : (m r i j : ℕ) → PairAt m r i j → r < pairsBelow m
+pair-within m r i j p =
+    let q = is-above m i j (p .rising) (p .below) in
+    rw (is-there m r i j p, ← pairs-all m, ← pairs-before m m (omega arith)) (within-each m (above m) i (j - suc i) (q .first-below) (q .place-below))
+
+-- a number has one pair
+pub same-pair : (m r i j i′ j′ : ℕ) → PairAt m r i j → PairAt m r i′ j′ → (i ≡ i′) × (j ≡ j′)
+same-pair m r i j i′ j′ p p′ =
+    let q = is-above m i j (p .rising) (p .below) in
+    let q′ = is-above m i′ j′ (p′ .rising) (p′ .below) in
+    let e : i ≡ i′ =
+    same-part (above m) i i′ (j - suc i) (j′ - suc i′) (q .place-below) (q′ .place-below) (sym (is-there m r i j p) ∙ is-there m r i′ j′ p′) in
+    (e, second (pairsBefore m i) (pairsBefore m i′) e (ap (pairsBefore m) e) (p .rising) (p′ .rising) (sym (p .is) ∙ p′ .is))
+  where
+    second : (start start′ : ℕ) → i ≡ i′ → start ≡ start′ → i < j → i′ < j′ → start + (j - suc i) ≡ start′ + (j′ - suc i′) → j ≡ j′
+    second start start′ e f h h′ g = omega arith
+
+module _ {X : Type 0} where
+  -- what was made for a pair stands at the pair's number
+  pub getD-pairs : (m : ℕ) (f : ℕ → ℕ → X) (z : X) (r i j : ℕ) → PairAt m r i j → getD (forPairs m (λ i j. f i j ∷ [])) r z ≡ f i j
+  unfolding forPairs
+  getD-pairs m f z r i j p =
+      let q = is-above m i j (p .rising) (p .below) in
+      ap (λ r. getD (forPairs m (λ i j. f i j ∷ [])) r z) (is-there m r i j p)
+      ∙ getD-each m (λ i. table (above m i) (λ j. f i (suc i + j))) (above m) (λ i. length-table _ _) z i (j - suc i) (q .first-below) (q .place-below)
+      ∙ getD-table (above m i) (λ j. f i (suc i + j)) z (j - suc i) (q .place-below)
+      ∙ ap (f i) (q .at-place)

@@ -8,8 +8,8 @@ use Prim.Native.Nat.{ℕ, zero, suc, _+_, _-_, _≤_, _<_}
 use native.Mathlib.Omega.{arith}
 use borrow.Author.Tests.{eqb-true, eqb-false, eq-eqb, ne-eqb, ltb-true, ltb-false, lt-ltb, le-ltb}
 use lib.Dec.{eqb, ltb}
-use lib.ListN.{length, getD, List·getD-eq-default}
-use lib.Seq.{ext-getD}
+use lib.ListN.{length, getD, take, List·getD-eq-default}
+use lib.Seq.{ext-getD, length-take-le, getD-take}
 use Rattle.rules.specs.Counting.{first, every, forEach, table}
 use Rattle.rules.specs.Answers.{judge}
 use Rattle.rules.specs.Task.{Pair, Task, n, d, A, pair, action}
@@ -17,7 +17,7 @@ use Rattle.rules.specs.Problem.{Problem, problem}
 use Rattle.rules.specs.Numbering.{actionNumber, N}
 use Rattle.rules.specs.Families.{plus, formula}
 use Rattle.rules.specs.Truth.{Model, literalTrue, satisfies, assigned}
-use Rattle.rules.specs.Walk.{State, startState, holds, applies, setPairs, apply, reached, entry, entryApplies, afterEntry, stateAt, scheduleRules, Good}
+use Rattle.rules.specs.Walk.{State, startState, holds, applies, setPairs, apply, reached, entry, entryApplies, afterEntry, stateAt, scheduleRules, CarriedOut}
 use Rattle.rules.specs.Readings.{trueAction, entryOf, scheduleOf, valueBits, actionBits, assignmentOf}
 use Rattle.rules.specs.declared.Verdict.the-variants.{Accepted}
 use Rattle.rules.proofs.Bools.{either, clash, not-true, not-false, below-or, same-truth}
@@ -56,12 +56,7 @@ same-walk T schedule (suc s) =
 
 -- ---- good schedules are runs
 
--- a good schedule in words
-pub record CarriedOut (T : Task) (k : ℕ) (schedule : List ℕ) : Type 0 where
-  pub entries-known : (s : ℕ) → s < k → entry schedule s ≤ A T
-  pub each-applies : (s : ℕ) → s < k → entryApplies T (entry schedule s) (stateAt T schedule s) ≡ true
-  pub reaches-goal : reached T (stateAt T schedule k) ≡ true
-
+-- refusals 20 to 22 apply to just the schedules that cannot be carried out or miss the goal
 pub carried-out : (T : Task) (k : ℕ) (schedule : List ℕ) → judge (scheduleRules T k schedule) ≡ Accepted → CarriedOut T k schedule
 unfolding scheduleRules reached
 carried-out T k schedule h₂₀ =
@@ -221,8 +216,8 @@ module _ (T : Task) (k : ℕ) where
     assignment-good schedule c =
         rw (same-assignment T k schedule) (run-satisfies P fine (rule1-agreeing T k) (entryMoves schedule) (good-run T k schedule c))
 
-    -- and states that schedule
-    pub schedule-back : (schedule : List ℕ) → length schedule ≡ k → CarriedOut T k schedule → scheduleOf P (assigned (assignmentOf P schedule)) ≡ schedule
+    -- and states that schedule, its first k entries
+    pub schedule-back : (schedule : List ℕ) → k ≤ length schedule → CarriedOut T k schedule → scheduleOf P (assigned (assignmentOf P schedule)) ≡ take k schedule
     unfolding entryOf trueAction literalTrue assignmentBy
     schedule-back schedule size c =
         let bits = assignmentOf P schedule in
@@ -230,8 +225,9 @@ module _ (T : Task) (k : ℕ) where
         λ s a hs ha.
         ap (λ l. getD l (actionNumber P s a - 1) false) (same-assignment T k schedule)
         ∙ layout-action P (walkedValues P (entryMoves schedule)) (entryMoves schedule) s a (record { step-of = hs; action-of = ha }) in
-        ext-getD 0 (scheduleOf P (assigned bits)) schedule (length-schedule (assigned bits) ∙ sym size) (λ s l.
+        ext-getD 0 (scheduleOf P (assigned bits)) (take k schedule) (length-schedule (assigned bits) ∙ sym (length-take-le k schedule size)) (λ s l.
         let hs : s < k = omega (arith, length-schedule (assigned bits)) in
         entry-at (assigned bits) s hs
         ∙ ap (λ f. cond (ltb f (A T)) (suc f) 0) (first-ext (A T) (movesIn P bits s) (entryMoves schedule s) (λ a ha. moves s a hs ha))
-        ∙ entry-back (A T) (entry schedule s) (c .entries-known s hs))
+        ∙ entry-back (A T) (entry schedule s) (c .entries-known s hs)
+        ∙ sym (getD-take k schedule s 0 hs))

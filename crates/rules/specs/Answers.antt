@@ -1,7 +1,7 @@
 -- Answers: the rules that a call judges by, in their order, and the number and detail of each refusal.
 -- Assumes nothing.
 use Prim.Native.Nat.{ℕ}
-use mathlib.Core.Bool.{Bool, true, false, cond}
+use mathlib.Core.Bool.{Bool, cond}
 use mathlib.Core.List.{List, [], _∷_}
 use lib.Dec.{eqb}
 use Rattle.rules.specs.Counting.{first}
@@ -10,64 +10,43 @@ use Rattle.rules.specs.declared.Refusal.the-variants.{FileLength, Conten
 use Rattle.rules.specs.declared.Verdict.{Verdict}
 use Rattle.rules.specs.declared.Verdict.the-variants.{Accepted, Refused}
 
--- the number of a refusal in the rules' table
-abbrev pub number : Refusal → ℕ
-number FileLength = 1
-number (ContentsRow r) = 2
-number BodyLength = 3
-number (DomainSize x) = 4
-number (StartValue x) = 5
-number (GoalPair i) = 6
-number (ActionAtFault a) = 7
-number Horizon = 8
-number ClauseNumber = 9
-number Room = 10
-number (Grammar i) = 11
-number (OutOfPlace i) = 12
-number (OverN i) = 13
-number (GivenBefore i) = 14
-number Unfinished = 15
-number (NotGiven v) = 16
-number (FalseClause c) = 17
-number Unsatisfiable = 18
-number Unknown = 19
-number (EntryOverA t) = 20
-number (DoesNotApply t) = 21
-number (GoalUnmet i) = 22
+-- an answer's number and detail
+pub record Answer : Type 0 where
+  pub number : ℕ
+  pub detail : ℕ
 
--- its detail
-abbrev pub detail : Refusal → ℕ
-detail FileLength = 0
-detail (ContentsRow r) = r
-detail BodyLength = 0
-detail (DomainSize x) = x
-detail (StartValue x) = x
-detail (GoalPair i) = i
-detail (ActionAtFault a) = a
-detail Horizon = 0
-detail ClauseNumber = 0
-detail Room = 0
-detail (Grammar i) = i
-detail (OutOfPlace i) = i
-detail (OverN i) = i
-detail (GivenBefore i) = i
-detail Unfinished = 0
-detail (NotGiven v) = v
-detail (FalseClause c) = c
-detail Unsatisfiable = 0
-detail Unknown = 0
-detail (EntryOverA t) = t
-detail (DoesNotApply t) = t
-detail (GoalUnmet i) = i
+abbrev pub answer : ℕ → ℕ → Answer
+answer number detail = record { number = number; detail = detail }
+
+-- the rules' table
+abbrev pub answerOf : Refusal → Answer
+answerOf FileLength = answer 1 0
+answerOf (ContentsRow r) = answer 2 r
+answerOf BodyLength = answer 3 0
+answerOf (DomainSize x) = answer 4 x
+answerOf (StartValue x) = answer 5 x
+answerOf (GoalPair i) = answer 6 i
+answerOf (ActionAtFault a) = answer 7 a
+answerOf Horizon = answer 8 0
+answerOf ClauseNumber = answer 9 0
+answerOf Room = answer 10 0
+answerOf (Grammar i) = answer 11 i
+answerOf (OutOfPlace i) = answer 12 i
+answerOf (OverN i) = answer 13 i
+answerOf (GivenBefore i) = answer 14 i
+answerOf Unfinished = answer 15 0
+answerOf (NotGiven v) = answer 16 v
+answerOf (FalseClause c) = answer 17 c
+answerOf Unsatisfiable = answer 18 0
+answerOf Unknown = answer 19 0
+answerOf (EntryOverA t) = answer 20 t
+answerOf (DoesNotApply t) = answer 21 t
+answerOf (GoalUnmet i) = answer 22 i
 
 -- 0 is acceptance, detail 0
-abbrev pub numberOf : Verdict → ℕ
-numberOf Accepted = 0
-numberOf (Refused r) = number r
-
-abbrev pub detailOf : Verdict → ℕ
-detailOf Accepted = 0
-detailOf (Refused r) = detail r
+abbrev pub answerTo : Verdict → Answer
+answerTo Accepted = answer 0 0
+answerTo (Refused why) = answerOf why
 
 -- what has to hold, and the refusal where it does not
 pub record Rule : Type 0 where

@@ -12,7 +12,7 @@ use Rattle.rules.specs.Answers.{Rule, demand, judge, inTurn}
 use Rattle.rules.specs.File.{taskOf, fileRules}
 use Rattle.rules.specs.Problem.{Problem, problem}
 use Rattle.rules.specs.Numbering.{N}
-use Rattle.rules.specs.Families.{Literal, signed, C, clause}
+use Rattle.rules.specs.Families.{signed, C, clause}
 use Rattle.rules.specs.Text.{headerLine, clauseLine, clauseLines}
 use Rattle.rules.specs.Rows.{Rows}
 use Rattle.rules.specs.Truth.{modelIn}

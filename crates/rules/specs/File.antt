@@ -1,12 +1,12 @@
 -- The task file: a table of contents and four bodies, the task that they state, and refusals 1 to 7.
 -- Assumes nothing.
-use Prim.Native.Nat.{ℕ, zero, suc, _+_, _-_, _*_, _/_, _%_}
-use mathlib.Core.Bool.{Bool, true, false, cond, not, _&&_, _||_}
+use Prim.Native.Nat.{ℕ, zero, suc, _+_, _*_, _/_, _%_}
+use mathlib.Core.Bool.{Bool, cond, not, _&&_, _||_}
 use mathlib.Core.List.{List, [], _∷_, _++_, map}
 use lib.Dec.{leb, ltb, eqb}
 use lib.ListN.{length, getD, take, drop}
 use Rattle.rules.specs.Counting.{table, forEach, joined}
-use Rattle.rules.specs.Limits.{maxFile, contentsRows, contentsBytes, rowBytes, pairBytes, countBytes}
+use Rattle.rules.specs.Limits.{maxFile, byteValues, numberBytes, contentsRows, contentsBytes, rowBytes, pairBytes, countBytes}
 use Rattle.rules.specs.Answers.{Rule, demand, noneAtFault, judge}
 use Rattle.rules.specs.Task.{Pair, Action, Task, pair, action, A, taskRules}
 use Rattle.rules.specs.declared.Refusal.the-variants.{FileLength, ContentsRow}
@@ -19,7 +19,7 @@ byte s i = getD s i 0
 
 -- two bytes, low byte first
 abbrev pub word16 : List ℕ → ℕ → ℕ
-word16 s i = byte s i + 256 * byte s (i + 1)
+word16 s i = byte s i + byteValues * byte s (i + 1)
 
 -- ---- the table of contents
 
@@ -27,7 +27,7 @@ abbrev pub bodyStart : List ℕ → ℕ → ℕ
 bodyStart file r = word16 file (rowBytes * r)
 
 abbrev pub bodyLength : List ℕ → ℕ → ℕ
-bodyLength file r = word16 file (rowBytes * r + 2)
+bodyLength file r = word16 file (rowBytes * r + numberBytes)
 
 -- where the body of row r has to start: the first at 16, each next where the last ended
 abbrev pub dueStart : List ℕ → ℕ → ℕ
@@ -125,7 +125,7 @@ unfoldable pub bodiesOf : Task → List (List ℕ)
 bodiesOf T = T .sizes ∷ T .start ∷ pairText (T .goal) ∷ forEach (A T) (λ a. actionText (action T a)) ∷ []
 
 abbrev pub bytes16 : ℕ → List ℕ
-bytes16 m = m % 256 ∷ m / 256 ∷ []
+bytes16 m = m % byteValues ∷ m / byteValues ∷ []
 
 -- the contents of bodies that stand one behind the other from place at on
 unfoldable pub contentsFrom : ℕ → List (List ℕ) → List ℕ

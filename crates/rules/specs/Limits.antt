@@ -33,11 +33,19 @@ maxLine = 4096
 abbrev pub maxDigits : ℕ
 maxDigits = 6
 
-abbrev pub contentsRows : ℕ
-contentsRows = 4
+-- how many values a byte has
+abbrev pub byteValues : ℕ
+byteValues = 256
+
+-- of a start and of a length in the table of contents
+abbrev pub numberBytes : ℕ
+numberBytes = 2
 
 abbrev pub rowBytes : ℕ
-rowBytes = 4
+rowBytes = numberBytes + numberBytes
+
+abbrev pub contentsRows : ℕ
+contentsRows = 4
 
 -- where the first body starts
 abbrev pub contentsBytes : ℕ
@@ -50,9 +58,12 @@ pairBytes = 2
 abbrev pub countBytes : ℕ
 countBytes = 2
 
+abbrev pub maxAction : ℕ
+maxAction = countBytes + pairBytes * (maxPairs + maxPairs)
+
 -- the longest file: contents, sizes, start values, goal pairs and actions at their limits
 abbrev pub maxFile : ℕ
-maxFile = contentsBytes + maxVariables + maxVariables + pairBytes * maxGoals + maxActions * (countBytes + pairBytes * (maxPairs + maxPairs))
+maxFile = contentsBytes + maxVariables + maxVariables + pairBytes * maxGoals + maxActions * maxAction
 
 -- what follows from these, and is proved: the most formula variables, clauses, and literals of a clause
 abbrev pub maxN : ℕ

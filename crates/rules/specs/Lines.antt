@@ -1,11 +1,11 @@
 -- One line of solver output, without its LF: its verdict (refusals 11 to 14), the literals that it names, and the phase after it.
 -- Assumes nothing.
-use Prim.Native.Nat.{ℕ, zero, suc, _+_, _-_, _*_, min, max}
+use Prim.Native.Nat.{ℕ, suc, _+_, _-_, _*_, min, max}
 use Prim.Native.Char.{code}
 use mathlib.Core.Bool.{Bool, true, false, cond, not, _&&_, _||_}
 use mathlib.Core.List.{List, [], _∷_, _++_, foldl, tail}
 use lib.Dec.{leb, ltb, eqb}
-use lib.ListN.{length, getD, drop}
+use lib.ListN.{length, drop}
 use Rattle.rules.specs.Counting.{first, any}
 use Rattle.rules.specs.Limits.{maxLine, maxDigits}
 use Rattle.rules.specs.Answers.{Rule, demand, judge, inTurn}
@@ -13,7 +13,6 @@ use Rattle.rules.specs.File.{byte}
 use Rattle.rules.specs.Families.{Literal, plus, minus}
 use Rattle.rules.specs.Text.{ascii, space, dash, digit0}
 use Rattle.rules.specs.Rows.{Rows, bitOfVariable, storeAll, wordsFor}
-use Rattle.rules.specs.declared.Refusal.{Refusal}
 use Rattle.rules.specs.declared.Refusal.the-variants.{Room, Grammar, OutOfPlace, OverN, GivenBefore}
 use Rattle.rules.specs.declared.Verdict.{Verdict}
 use Rattle.rules.specs.declared.Verdict.the-variants.{Accepted, Refused}

@@ -1,10 +1,10 @@
 -- Rows of bits: 64 to a word from the lowest bit up, variable 1 first; two rows say which variables are given and which are true.
 -- Assumes nothing.
-use Prim.Native.Nat.{ℕ, zero, suc, _+_, _-_, _*_, _/_, _%_, _^_}
+use Prim.Native.Nat.{ℕ, _+_, _-_, _*_, _/_, _%_, _^_}
 use mathlib.Core.Bool.{Bool, true, false, cond}
-use mathlib.Core.List.{List, [], _∷_, _++_, foldl}
+use mathlib.Core.List.{List, _++_, foldl}
 use lib.Dec.{eqb}
-use lib.ListN.{length, getD, set, drop, replicate}
+use lib.ListN.{length, getD, set, drop}
 use Rattle.rules.specs.Counting.{sumTo, table}
 use Rattle.rules.specs.Families.{Literal, plus, minus}
 

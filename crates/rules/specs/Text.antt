@@ -7,7 +7,7 @@ use mathlib.Core.Bool.{true, false}
 use mathlib.Core.List.{List, [], _∷_, _++_, map}
 use lib.Dec.{ltb}
 use Rattle.rules.specs.Counting.{joined}
-use Rattle.rules.specs.Answers.{number, detail}
+use Rattle.rules.specs.Answers.{answerOf}
 use Rattle.rules.specs.Problem.{Problem}
 use Rattle.rules.specs.Numbering.{N}
 use Rattle.rules.specs.Families.{Literal, plus, minus, Clause, C, formula}
@@ -59,4 +59,4 @@ unfoldable pub formulaText : Problem → List ℕ
 formulaText P = headerLine P ++ joined (clauseLines P)
 
 unfoldable pub refusalLine : Refusal → List ℕ
-refusalLine r = ascii "refused " ++ decimal (number r) ++ (space ∷ []) ++ decimal (detail r) ++ (lf ∷ [])
+refusalLine r = ascii "refused " ++ decimal (answerOf r .number) ++ (space ∷ []) ++ decimal (answerOf r .detail) ++ (lf ∷ [])

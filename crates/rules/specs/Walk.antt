@@ -1,17 +1,16 @@
 -- The walk of a schedule: the state is one record of 96 values that each move changes, values from n on stay 0; refusals 20 to 22.
 -- Assumes nothing.
-use Prim.Native.Nat.{ℕ, zero, suc, _-_}
+use Prim.Native.Nat.{ℕ, zero, suc, _-_, _≤_, _<_}
 use mathlib.Core.Bool.{Bool, true, not, _&&_}
 use mathlib.Core.Path.{_≡_}
 use mathlib.Core.List.{List, [], _∷_, _++_}
 use lib.Dec.{ltb, eqb}
 use lib.ListN.{length, getD, set, replicate}
-use Rattle.rules.specs.Counting.{first, every}
+use Rattle.rules.specs.Counting.{every}
 use Rattle.rules.specs.Limits.{maxVariables}
-use Rattle.rules.specs.Answers.{Rule, noneAtFault, judge}
+use Rattle.rules.specs.Answers.{Rule, noneAtFault}
 use Rattle.rules.specs.Task.{Pair, Task, n, A, pair, action}
 use Rattle.rules.specs.declared.Refusal.the-variants.{EntryOverA, DoesNotApply, GoalUnmet}
-use Rattle.rules.specs.declared.Verdict.the-variants.{Accepted}
 
 abbrev pub State : Type 0
 State = List ℕ
@@ -64,10 +63,16 @@ scheduleRules T k schedule =
     ∷ noneAtFault (length (T .goal)) (λ i. not (holds (stateAt T schedule k) (pair (T .goal) i))) GoalUnmet
     ∷ []
 
--- a good schedule for horizon k has k entries, each action applies when its step comes, and the goal holds at the end
+-- each entry is known, each action applies when its step comes, and the goal holds at the end
+pub record CarriedOut (T : Task) (k : ℕ) (schedule : List ℕ) : Type 0 where
+  pub entries-known : (s : ℕ) → s < k → entry schedule s ≤ A T
+  pub each-applies : (s : ℕ) → s < k → entryApplies T (entry schedule s) (stateAt T schedule s) ≡ true
+  pub reaches-goal : reached T (stateAt T schedule k) ≡ true
+
+-- a good schedule for horizon k has k entries, which can be carried out and reach the goal
 pub record Good (T : Task) (k : ℕ) (schedule : List ℕ) : Type 0 where
   pub entries : length schedule ≡ k
-  pub inOrder : judge (scheduleRules T k schedule) ≡ Accepted
+  pub carried : CarriedOut T k schedule
 
 -- ---- plans, without schedules: actions that can be carried out one after the other and reach the goal
 

@@ -25,7 +25,7 @@ use Rattle.rules.proofs.Valid.{WellFormed}
 use Rattle.rules.proofs.Contents.{Contents, body-within, length-body}
 use Rattle.rules.proofs.Files.{accepted-file, accepted-well-formed}
 use Rattle.rules.proofs.Rests.{action-read, rest-place}
-use Rattle.rules.proofs.Pairs.{length-pairsAt, pair-at}
+use Rattle.rules.proofs.PairBytes.{length-pairsAt, pair-at}
 use Rattle.task.specs.Index.{restAt, variableRow, actionRow, variableRows, actionRows, variableWidth, actionWidth, actionsAt, countAt, indexLength, indexOf, actionPlace, valuePairsBefore, preconditionsBefore, effectsBefore, Indexed}
 use Rattle.task.specs.declared.numbering.NumberRead.the-variants.{Number, Outside}
 use Rattle.task.specs.Numbers.{atAnyHorizon, numberRead}

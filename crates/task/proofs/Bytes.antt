@@ -17,7 +17,7 @@ use Rattle.rules.proofs.Valid.{WellFormed, Judged}
 use Rattle.rules.proofs.Contents.{Contents, contents-accepted, length-body, body-within}
 use Rattle.rules.proofs.Files.{FileJudged, accepted-file}
 use Rattle.rules.proofs.Rests.{action-read, rest-place}
-use Rattle.rules.proofs.Pairs.{length-pairsAt, pair-at}
+use Rattle.rules.proofs.PairBytes.{length-pairsAt, pair-at}
 use Rattle.task.specs.Index.{restAt, actionPlace}
 
 -- ---- actions by their rests

@@ -14,7 +14,7 @@ use Rattle.rules.specs.Limits.{maxVariables, maxGoals, maxDomain, maxPairs, pai
 use Rattle.rules.specs.Task.{d, S, sizeAtFault, startAtFault, pairAtFault, listInOrder}
 use Rattle.rules.specs.File.{byte, pairsAt}
 use Rattle.rules.proofs.Bools.{below-or}
-use Rattle.rules.proofs.Pairs.{length-pairsAt, risesAt, fault-at, fault-alone}
+use Rattle.rules.proofs.PairBytes.{length-pairsAt, risesAt, fault-at, fault-alone}
 use Rattle.task.specs.Bodies.{sized, taskIn}
 
 -- at most is not above

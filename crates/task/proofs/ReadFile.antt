@@ -22,7 +22,7 @@ use Rattle.rules.proofs.Bools.{and-left, and-right, not-true, not-false}
 use Rattle.rules.proofs.Judging.{judge-refused, judge-passed, judge-append}
 use Rattle.rules.proofs.Counting.{first-le}
 use Rattle.rules.proofs.Loops.{judge-found, judge-none}
-use Rattle.rules.proofs.Pairs.{length-pairsAt}
+use Rattle.rules.proofs.PairBytes.{length-pairsAt}
 use Rattle.task.specs.Stretches.{Stretch}
 use Rattle.task.specs.Bodies.{taskIn, sized, bodiesRules, actionsRule}
 use Rattle.task.proofs.ReadChecks.{fit}

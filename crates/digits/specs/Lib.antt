@@ -1,0 +1,4 @@
+-- What the contracts of this crate cite beside the rules.
+pub mod Over
+pub mod Bound
+pub mod Word

@@ -1,0 +1,57 @@
+-- Demands 2 and 3 as statements about the definitions in specs/. Proved.antt proves both, for every valid task and every horizon.
+-- Assumes nothing.
+use mathlib.Core.Path.{_≡_}
+use mathlib.Core.Logic.{_↔_}
+use mathlib.Core.Bool.{Bool, true, false}
+use mathlib.Core.List.{List, [], _∷_, _++_, map}
+use Prim.Native.Nat.{ℕ, suc, _+_, _*_, _≤_, _<_}
+use lib.ListN.{length, getD}
+use Rattle.rules.specs.Counting.{joined}
+use Rattle.rules.specs.Answers.{judge}
+use Rattle.rules.specs.Task.{Task, S, A}
+use Rattle.rules.specs.Problem.{Problem, problem}
+use Rattle.rules.specs.Numbering.{N}
+use Rattle.rules.specs.Families.{family1, family2, family3, family4, family5, family6, family7, family8, families, formula}
+use Rattle.rules.specs.Counts.{sum, countTable}
+use Rattle.rules.specs.Text.{ascii, decimal, space, lf, headerLine}
+use Rattle.rules.specs.Rows.{Rows, bitOfVariable}
+use Rattle.rules.specs.Truth.{satisfies, assigned}
+use Rattle.rules.specs.Walk.{scheduleRules, CarriedOut, Good, isPlan}
+use Rattle.rules.specs.Readings.{scheduleOf, assignmentOf, rowsOf}
+use Rattle.rules.specs.Output.{outcome}
+use Rattle.rules.specs.declared.Verdict.the-variants.{Accepted}
+use Rattle.rules.specs.declared.Phase.the-variants.{ModelClosed}
+use Rattle.rules.proofs.Endings.{Complete}
+
+module _ (T : Task) (k : ℕ) where
+  abbrev P : Problem
+  P = problem T k
+
+  -- Demand 2: the formula is the eight families in order, with true counts in its header; a closed model is accepted exactly if all N variables are
+  -- given and every clause is true; a schedule is accepted exactly if its moves can be carried out and reach the goal, and its rows hold its assignment.
+  pub record Demand2 : Type 0 where
+    pub in-order :
+        formula P ≡ joined (family1 P ∷ family2 P ∷ family3 P ∷ family4 P ∷ family5 P ∷ family6 P ∷ family7 P ∷ family8 P ∷ [])
+    pub counted : map length (families P) ≡ countTable T k
+    pub header :
+        headerLine P ≡ ascii "p cnf " ++ decimal (k * (S T + A T) + S T) ++ (space ∷ []) ++ decimal (sum (countTable T k)) ++ (lf ∷ [])
+    pub model : (rows : Rows) → (outcome P ModelClosed rows ≡ Accepted) ↔ Complete P rows
+    pub schedule : (entries : List ℕ) → (judge (scheduleRules T k entries) ≡ Accepted) ↔ CarriedOut T k entries
+    pub rows-hold : (entries : List ℕ) (rows : Rows) (i : ℕ) → i < N P
+        → (bitOfVariable (rowsOf P entries rows .given) (suc i) ≡ true)
+        × (bitOfVariable (rowsOf P entries rows .isTrue) (suc i) ≡ getD (assignmentOf P entries) i false)
+
+  -- an assignment of the N variables that makes every clause true
+  pub record Satisfying (bits : List Bool) : Type 0 where
+    pub size : length bits ≡ N P
+    pub all-true : satisfies (assigned bits) (formula P) ≡ true
+
+  -- Demand 3: satisfying assignments and good schedules pair off one to one by the readings of demand 2, no two assignments share a schedule, and
+  -- there is a satisfying assignment exactly if there is a plan of at most k moves.
+  pub record Demand3 : Type 0 where
+    pub to-schedule : (bits : List Bool) → Satisfying bits → Good T k (scheduleOf P (assigned bits))
+    pub to-assignment : (entries : List ℕ) → Good T k entries → Satisfying (assignmentOf P entries)
+    pub there-and-back : (bits : List Bool) → Satisfying bits → assignmentOf P (scheduleOf P (assigned bits)) ≡ bits
+    pub back-and-there : (entries : List ℕ) → Good T k entries → scheduleOf P (assigned (assignmentOf P entries)) ≡ entries
+    pub no-two : (bits bits′ : List Bool) → Satisfying bits → Satisfying bits′ → scheduleOf P (assigned bits) ≡ scheduleOf P (assigned bits′) → bits ≡ bits′
+    pub plan : ((bits : List Bool) × Satisfying bits) ↔ ((moves : List ℕ) × (length moves ≤ k) × (isPlan T moves ≡ true))

@@ -1,0 +1,68 @@
+-- Demands 2 and 3 hold, for every valid task and every horizon.
+-- Assumes nothing.
+use mathlib.Core.Path.{_≡_, refl, sym, ap, _∙_}
+use mathlib.Core.Bool.{Bool, true, false}
+use mathlib.Core.List.{List, _∷_, [], _++_}
+use Prim.Native.Nat.{ℕ, suc, _-_, _≤_, _<_}
+use native.Mathlib.Omega.{arith}
+use lib.ListN.{length, getD, replicate, length-replicate, getD-replicate}
+use lib.Seq.{take-all}
+use Rattle.rules.specs.Task.{Task, Valid}
+use Rattle.rules.specs.Problem.{Problem, problem}
+use Rattle.rules.specs.Numbering.{N}
+use Rattle.rules.specs.Families.{families, formula}
+use Rattle.rules.specs.Text.{ascii, decimal, space, lf, headerLine}
+use Rattle.rules.specs.Truth.{assigned}
+use Rattle.rules.specs.Walk.{CarriedOut, Good}
+use Rattle.rules.specs.Readings.{scheduleOf, assignmentOf, rowsOf}
+use Rattle.rules.proofs.Valid.{WellFormed, valid-well-formed}
+use Rattle.rules.proofs.Bits.{packed-bit}
+use Rattle.rules.proofs.Counts.{counts, C-is}
+use Rattle.rules.proofs.Endings.{accepted-complete, complete-accepted}
+use Rattle.rules.proofs.Schedules.{carried-out, out-carried, length-assignment, length-schedule, schedule-good, assignment-back, assignment-good, schedule-back}
+use Rattle.rules.proofs.Plans.{movesOf, moves-most, schedule-plan, padded, length-padded, plan-schedule}
+use Rattle.rules.proofs.Demands.{Demand2, Satisfying, Demand3}
+
+pub demand2 : (T : Task) (k : ℕ) → Demand2 T k
+unfolding formula families headerLine N rowsOf
+demand2 T k =
+    let P = problem T k in
+    record {
+      in-order = refl;
+      counted = counts T k;
+      header = ap (λ c. ascii "p cnf " ++ decimal (N P) ++ (space ∷ []) ++ decimal c ++ (lf ∷ [])) (C-is T k);
+      model = λ rows. (accepted-complete P rows, complete-accepted P rows);
+      schedule = λ entries. (carried-out T k entries, out-carried T k entries);
+      rows-hold = λ entries rows i l. (
+        packed-bit (replicate (N P) true) (rows .given) i (omega (arith, length-replicate {A = Bool} (N P) true)) ∙ getD-replicate (N P) i true false l,
+        packed-bit (assignmentOf P entries) (rows .isTrue) i (omega (arith, length-assignment T k entries)),
+      );
+    }
+
+pub demand3 : (T : Task) → Valid T → (k : ℕ) → Demand3 T k
+demand3 T valid k =
+    let P : Problem = problem T k in
+    let fine : WellFormed T = valid-well-formed T valid in
+    let good : (bits : List Bool) → Satisfying T k bits → CarriedOut T k (scheduleOf P (assigned bits)) =
+    λ bits b. schedule-good T k fine bits (b .size) (b .all-true) in
+    let satisfying : (entries : List ℕ) → CarriedOut T k entries → Satisfying T k (assignmentOf P entries) =
+    λ entries c. record { size = length-assignment T k entries; all-true = assignment-good T k fine entries c } in
+    let back : (bits : List Bool) → Satisfying T k bits → assignmentOf P (scheduleOf P (assigned bits)) ≡ bits =
+    λ bits b. assignment-back T k fine bits (b .size) (b .all-true) in
+    record {
+      to-schedule = λ bits b. record { entries = length-schedule T k (assigned bits); carried = good bits b };
+      to-assignment = λ entries g. satisfying entries (g .carried);
+      there-and-back = back;
+      back-and-there = λ entries g.
+          schedule-back T k fine entries (omega (arith, g .entries)) (g .carried) ∙ take-all k entries (omega (arith, g .entries));
+      no-two = λ bits bits′ b b′ e. sym (back bits b) ∙ ap (assignmentOf P) e ∙ back bits′ b′;
+      plan = (
+        λ m.
+            let schedule = scheduleOf P (assigned (m .0)) in
+            let size = length-schedule T k (assigned (m .0)) in
+            (movesOf T schedule, omega (arith, moves-most T schedule), schedule-plan T k schedule size (good (m .0) (m .1))),
+        λ p.
+            let schedule = padded T (p .0) (k - length (p .0)) in
+            (assignmentOf P schedule, satisfying schedule (plan-schedule T k (p .0) (p .1) (p .2))),
+      );
+    }

@@ -1,0 +1,2 @@
+-- What the walk's contracts cite beside the rules.
+pub mod Lent
