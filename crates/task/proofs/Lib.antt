@@ -7,3 +7,4 @@ pub mod Rows
 pub mod Bytes
 pub mod Asking
 pub mod StartValues
+pub mod OneAnswer

@@ -16,7 +16,7 @@ pub enum ActionRead {
 }
 
 // The action that begins `rest`.
-pub fn read_action(sizes: &[u8], rest: &[u8]) -> ActionRead
+pub(crate) fn read_action(sizes: &[u8], rest: &[u8]) -> ActionRead
     ensures { λ r. ⌜ r ≡ actionRead (now (sizes .entry)) (now (rest .entry)) ⌝ }
 {
     if rest.len() < COUNT_BYTES {
@@ -38,7 +38,7 @@ pub fn read_action(sizes: &[u8], rest: &[u8]) -> ActionRead
 }
 
 // Refusal 7.
-pub fn actions_verdict(sizes: &[u8], actions: &[u8]) -> Verdict
+pub(crate) fn actions_verdict(sizes: &[u8], actions: &[u8]) -> Verdict
     ensures { λ r. ⌜ r ≡ judge (actionsRule (now (sizes .entry)) (now (actions .entry))) ⌝ }
 {
     let mut at = 0;

@@ -14,7 +14,7 @@ ghost use Rattle.rules.specs.File.{pairsAt};
 ghost use Rattle.task.specs.Bodies.{sized, taskIn};
 
 // The lengths of three bodies fit: n from 1 to 96, as many start values, whole goal pairs and at most 96 of them.
-pub fn lengths_fit(n: usize, starts: usize, goals: usize) -> bool
+pub(crate) fn lengths_fit(n: usize, starts: usize, goals: usize) -> bool
     ensures {
         λ r. ⌜ r ≡ (leb 1 n && leb n maxVariables && eqb starts n && eqb (goals % pairBytes) 0 && leb (goals / pairBytes) maxGoals) ⌝
     }
@@ -47,7 +47,7 @@ fn size_at_fault(sizes: &[u8], x: usize) -> bool
 }
 
 // The first variable whose size is at fault, or n.
-pub fn first_size_at_fault(sizes: &[u8]) -> usize
+pub(crate) fn first_size_at_fault(sizes: &[u8]) -> usize
     ensures { λ r. ⌜ r ≡ first (length (now (sizes .entry))) (sizeAtFault (sized (now (sizes .entry)))) ⌝ }
 {
     let mut x = 0;
@@ -61,7 +61,7 @@ pub fn first_size_at_fault(sizes: &[u8]) -> usize
 }
 
 // S, the sum of all sizes.
-pub fn sum_of_sizes(sizes: &[u8]) -> usize
+pub(crate) fn sum_of_sizes(sizes: &[u8]) -> usize
     requires { ⌜ length (now sizes) ≤ maxVariables ⌝ }
     ensures { λ r. ⌜ r ≡ S (sized (now (sizes .entry))) ⌝ }
 {
@@ -83,7 +83,7 @@ fn start_at_fault(sizes: &[u8], start: &[u8], x: usize) -> bool
 }
 
 // The first variable whose start value is at fault, or n.
-pub fn first_start_at_fault(sizes: &[u8], start: &[u8]) -> usize
+pub(crate) fn first_start_at_fault(sizes: &[u8], start: &[u8]) -> usize
     requires { ⌜ length (now start) ≡ length (now sizes) ⌝ }
     ensures { λ r. ⌜ r ≡ first (length (now (sizes .entry))) (startAtFault (taskIn (now (sizes .entry)) (now (start .entry)) [] [])) ⌝ }
 {
@@ -116,7 +116,7 @@ fn pair_at_fault(sizes: &[u8], s: &[u8], at: usize, i: usize) -> bool
 }
 
 // The first of the pairs from place at on that is at fault, or their count.
-pub fn first_pair_at_fault(sizes: &[u8], s: &[u8], at: usize, count: usize) -> usize
+pub(crate) fn first_pair_at_fault(sizes: &[u8], s: &[u8], at: usize, count: usize) -> usize
     requires { ⌜ at + pairBytes * count ≤ length (now s) ⌝ }
     ensures { λ r. ⌜ r ≡ first count (pairAtFault (sized (now (sizes .entry))) (pairsAt (now (s .entry)) at count)) ⌝ }
 {
@@ -131,7 +131,7 @@ pub fn first_pair_at_fault(sizes: &[u8], s: &[u8], at: usize, count: usize) -> u
 }
 
 // At most eight pairs from place at on, none at fault.
-pub fn list_in_order(sizes: &[u8], s: &[u8], at: usize, count: usize) -> bool
+pub(crate) fn list_in_order(sizes: &[u8], s: &[u8], at: usize, count: usize) -> bool
     requires { ⌜ at + pairBytes * count ≤ length (now s) ⌝ }
     ensures { λ r. ⌜ r ≡ listInOrder (sized (now (sizes .entry))) (pairsAt (now (s .entry)) at count) ⌝ }
 {

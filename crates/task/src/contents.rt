@@ -15,7 +15,7 @@ ghost use Rattle.rules.specs.declared.Verdict.the-variants.{Accepted};
 ghost use Rattle.task.specs.Stretches.{Stretch, startAsked};
 
 // The byte at place i.
-pub fn byte_at(s: &[u8], i: usize) -> usize
+pub(crate) fn byte_at(s: &[u8], i: usize) -> usize
     requires { ⌜ i < length (now s) ⌝ }
     ensures { λ r. ⌜ (r ≡ byte (now (s .entry)) i) × (r ≤ 255) ⌝ }
 {
@@ -31,7 +31,7 @@ fn word_at(s: &[u8], i: usize) -> usize
 }
 
 // Where row `row` says that its body starts.
-pub fn body_start(file: &[u8], row: usize) -> usize
+pub(crate) fn body_start(file: &[u8], row: usize) -> usize
     requires { ⌜ (contentsBytes ≤ length (now file)) × (row < contentsRows) ⌝ }
     ensures { λ r. ⌜ (r ≡ bodyStart (now (file .entry)) row) × (r ≤ 65535) ⌝ }
 {
@@ -39,7 +39,7 @@ pub fn body_start(file: &[u8], row: usize) -> usize
 }
 
 // How long row `row` says that its body is.
-pub fn body_length(file: &[u8], row: usize) -> usize
+pub(crate) fn body_length(file: &[u8], row: usize) -> usize
     requires { ⌜ (contentsBytes ≤ length (now file)) × (row < contentsRows) ⌝ }
     ensures { λ r. ⌜ (r ≡ bodyLength (now (file .entry)) row) × (r ≤ 65535) ⌝ }
 {

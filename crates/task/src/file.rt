@@ -11,7 +11,7 @@ ghost use Rattle.rules.specs.File.{fileVerdict};
 ghost use Rattle.task.specs.Bodies.{bodiesRules};
 
 // Refusals 3 to 7, of four bodies.
-pub fn bodies_verdict(sizes: &[u8], start: &[u8], goal: &[u8], actions: &[u8]) -> Verdict
+pub(crate) fn bodies_verdict(sizes: &[u8], start: &[u8], goal: &[u8], actions: &[u8]) -> Verdict
     ensures {
         λ r. ⌜ r ≡ judge (bodiesRules (now (sizes .entry)) (now (start .entry)) (now (goal .entry)) (now (actions .entry))) ⌝
     }
