@@ -1,7 +1,6 @@
 -- The ways out of the functions that read actions.
 -- Assumes nothing.
 use mathlib.Core.Path.{_≡_, refl, sym, ap, _∙_}
-use mathlib.Core.Logic.{⊎-elim}
 use mathlib.Core.Bool.{Bool, true, false, cond, not, _&&_}
 use mathlib.Core.List.{List, [], map}
 use Prim.Native.Nat.{ℕ, _+_, _-_, _*_, _^_, _≤_, _<_, min}
@@ -10,7 +9,7 @@ use borrow.Author.Tests.{eq-eqb, ne-eqb, le-leb, lt-leb, leb-true}
 use mir.Syntax.{w64}
 use mir.Val.{Fits}
 use lib.Dec.{leb, eqb}
-use lib.ListN.{length, getD, take, drop, length-drop, length-map}
+use lib.ListN.{length, take, drop, length-drop, length-map}
 use lib.Seq.{take-all, drop-drop}
 use Rattle.rules.specs.Counting.{first}
 use Rattle.rules.specs.Limits.{maxActions, pairBytes, countBytes}
@@ -18,7 +17,6 @@ use Rattle.rules.specs.Answers.{judge}
 use Rattle.rules.specs.Task.{Task, Action, action, pairAtFault, listInOrder, actionInOrder, actionAtFault, taskRules}
 use Rattle.rules.specs.File.{byte, pairsAt, actionBytes, actionIn, rests, isWhole}
 use Rattle.rules.specs.declared.Refusal.the-variants.{ActionAtFault}
-use Rattle.rules.specs.declared.Verdict.{Verdict}
 use Rattle.rules.specs.declared.Verdict.the-variants.{Accepted, Refused}
 use Rattle.rules.proofs.Bools.{and-left, not-true, not-false}
 use Rattle.rules.proofs.Judging.{judge-refused, judge-passed, judge-nil}

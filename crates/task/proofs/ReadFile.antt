@@ -10,10 +10,10 @@ use lib.Dec.{leb, eqb}
 use lib.ListN.{length, drop}
 use denote.Ref.{RefT, now}
 use Rattle.rules.specs.Counting.{first}
-use Rattle.rules.specs.Limits.{maxVariables, maxValues, maxGoals, pairBytes}
+use Rattle.rules.specs.Limits.{maxVariables, maxValues, pairBytes}
 use Rattle.rules.specs.Answers.{judge, inTurn}
 use Rattle.rules.specs.Task.{Task, S, sizeAtFault, startAtFault, pairAtFault, listInOrder, actionInOrder, actionAtFault, taskRules}
-use Rattle.rules.specs.File.{pairsAt, rests, isWhole, contentsRules, contentsVerdict, body, taskOf, fileRules, fileVerdict}
+use Rattle.rules.specs.File.{pairsAt, contentsRules, contentsVerdict, body, taskOf, fileRules, fileVerdict}
 use Rattle.rules.specs.declared.Refusal.{Refusal}
 use Rattle.rules.specs.declared.Refusal.the-variants.{BodyLength, DomainSize, StartValue, GoalPair}
 use Rattle.rules.specs.declared.Verdict.{Verdict}
