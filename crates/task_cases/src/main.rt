@@ -5,11 +5,12 @@
 use rules::Refusal;
 use rules::Verdict;
 use task::index::INDEX_LENGTH;
+use task::numbering::ActionNumber;
 use task::numbering::ValuePlace;
 ghost use mathlib.Core.Path.{_≡_};
 ghost use Prim.Native.Nat.{_+_, _<_, _≤_};
 ghost use lib.ListN.{length};
-ghost use Rattle.rules.specs.Task.{A as actionCount, action};
+ghost use Rattle.rules.specs.Task.{n, A as actionCount};
 ghost use Rattle.rules.specs.File.{taskOf, fileVerdict};
 ghost use Rattle.rules.specs.declared.Verdict.the-variants.{Accepted};
 ghost use Rattle.task.specs.Index.{Indexed};
@@ -70,31 +71,45 @@ fn print_verdict(text: &[u8], verdict: Verdict) {
     }
 }
 
+fn print_body(file: &[u8], b: usize) {
+    print(b" ", task::contents::body_asked(file, b).len());
+}
+
 fn print_bodies(file: &[u8]) {
     io::write_all(1, b"; bodies");
     let mut b = 0;
     while b < 6 {
-        print(b" ", task::contents::body_asked(file, b).len());
+        print_body(file, b);
         b += 1;
     }
 }
 
 // ---- an accepted file
 
-fn print_place(text: &[u8], place: ValuePlace) {
-    print(text, task::numbering::variable_of(place));
+fn print_place(place: ValuePlace) {
+    print(b" ", task::numbering::variable_of(place));
     print(b"=", task::numbering::value_of(place));
+}
+
+fn print_start_value(file: &[u8], index: &[usize], x: usize)
+    requires { ⌜ Indexed (now file) (now index) × (x < n (taskOf (now file))) ⌝ }
+{
+    let place = task::numbering::value_place(x, task::asked::start_value(file, x));
+    print_place(place);
+    print(
+        b" as ",
+        task::numbering::number_of(task::numbering::value_number(file, index, 0, place)),
+    );
 }
 
 fn print_start(file: &[u8], index: &[usize])
     requires { ⌜ Indexed (now file) (now index) ⌝ }
 {
     io::write_all(1, b"; start");
+    let variables = task::asked::variables(file);
     let mut x = 0;
-    while x < task::asked::variables(file) {
-        let place = task::numbering::value_place(x, task::asked::start_value(file, x));
-        print_place(b" ", place);
-        print(b" as ", task::numbering::number_of(task::numbering::value_number(file, index, 0, place)));
+    while x < variables {
+        print_start_value(file, index, x);
         x += 1;
     }
 }
@@ -103,9 +118,34 @@ fn print_goal(file: &[u8])
     requires { ⌜ fileVerdict (now file) ≡ Accepted ⌝ }
 {
     io::write_all(1, b"; goal");
+    let goals = task::asked::goals(file);
     let mut i = 0;
-    while i < task::asked::goals(file) {
-        print_place(b" ", task::asked::goal_pair(file, i));
+    while i < goals {
+        print_place(task::asked::goal_pair(file, i));
+        i += 1;
+    }
+}
+
+fn print_preconditions(file: &[u8], index: &[usize], a: ActionNumber)
+    requires { ⌜ Indexed (now file) (now index) × (a .0 < actionCount (taskOf (now file))) ⌝ }
+{
+    io::write_all(1, b" needs");
+    let count = task::asked::precondition_count(file, index, a);
+    let mut i = 0;
+    while i < count {
+        print_place(task::asked::precondition(file, index, a, i));
+        i += 1;
+    }
+}
+
+fn print_effects(file: &[u8], index: &[usize], a: ActionNumber)
+    requires { ⌜ Indexed (now file) (now index) × (a .0 < actionCount (taskOf (now file))) ⌝ }
+{
+    io::write_all(1, b" sets");
+    let count = task::asked::effect_count(file, index, a);
+    let mut i = 0;
+    while i < count {
+        print_place(task::asked::effect(file, index, a, i));
         i += 1;
     }
 }
@@ -114,18 +154,25 @@ fn print_action(file: &[u8], index: &[usize], a: usize)
     requires { ⌜ Indexed (now file) (now index) × (a < actionCount (taskOf (now file))) ⌝ }
 {
     let action = task::numbering::nth_action(a);
-    print(b"; ", task::numbering::number_of(task::numbering::action_number(file, index, 0, action)));
-    io::write_all(1, b" needs");
-    let mut i = 0;
-    while i < task::asked::precondition_count(file, index, action) {
-        print_place(b" ", task::asked::precondition(file, index, action, i));
-        i += 1;
-    }
-    io::write_all(1, b" sets");
-    let mut j = 0;
-    while j < task::asked::effect_count(file, index, action) {
-        print_place(b" ", task::asked::effect(file, index, action, j));
-        j += 1;
+    print(
+        b"; ",
+        task::numbering::number_of(task::numbering::action_number(file, index, 0, action)),
+    );
+    print_preconditions(file, index, action);
+    print_effects(file, index, action);
+}
+
+fn print_actions(file: &[u8], index: &[usize])
+    requires { ⌜ Indexed (now file) (now index) ⌝ }
+{
+    let actions = task::index::actions(file, index);
+    let mut a = 0;
+    while a < actions {
+        if a == SHOWN {
+            return;
+        }
+        print_action(file, index, a);
+        a += 1;
     }
 }
 
@@ -139,16 +186,15 @@ fn print_task(file: &[u8], index: &[usize])
     print(b", goal pairs ", task::asked::goals(file));
     print_start(file, index);
     print_goal(file);
-    let mut a = 0;
-    while a < actions {
-        if a == SHOWN {
-            break;
-        }
-        print_action(file, index, a);
-        a += 1;
-    }
-    print(b"; all preconditions ", task::index::preconditions_before(file, index, actions));
-    print(b", effects ", task::index::effects_before(file, index, actions));
+    print_actions(file, index);
+    print(
+        b"; all preconditions ",
+        task::index::preconditions_before(file, index, actions),
+    );
+    print(
+        b", effects ",
+        task::index::effects_before(file, index, actions),
+    );
 }
 
 fn print_answers(file: &[u8]) {
@@ -241,29 +287,44 @@ fn byte_of(high: usize, low: usize) -> u8
     ((high * 16 + low) % 256) as u8
 }
 
-// The bytes that a line states in hex; how many there are.
+// How often the byte stands that a text begins with.
+fn times(text: &[u8]) -> usize
+    ensures { λ r. ⌜ r ≤ 1000000 ⌝ }
+{
+    if text.len() < 3 {
+        return 1;
+    }
+    if text[2] != b'*' {
+        return 1;
+    }
+    decimal(&text[3..])
+}
+
+// The bytes that a line states in hex, parted by spaces; how many there are.
 fn decode(line: &[u8], file: &mut [u8]) -> usize
     ensures { λ r. do ⌜ r ≤ (← ⟦file.len()⟧ .entry) ⌝ }
 {
     let mut bytes = 0;
-    let mut i = 0;
-    while i + 1 < line.len() {
-        let high = digit(line[i]);
-        let low = digit(line[i + 1]);
-        if 15 < high {
-            i += 1;
-            continue;
-        }
-        let mut times = 1;
-        if i + 2 < line.len() {
-            if line[i + 2] == b'*' {
-                times = decimal(&line[i + 3..]);
-            }
-        }
-        bytes = put(file, bytes, byte_of(high, low), times);
+    let mut i = place_of(line, 0, b' ');
+    while i + 2 < line.len() {
+        i += 1;
+        bytes = put(
+            file,
+            bytes,
+            byte_of(digit(line[i]), digit(line[i + 1])),
+            times(&line[i..]),
+        );
         i = place_of(line, i, b' ');
     }
     bytes
+}
+
+fn answer(name: &[u8], line: &[u8], file: &mut [u8]) {
+    io::write_all(1, name);
+    io::write_all(1, b":");
+    let bytes = decode(line, file);
+    print_answers(&file[..bytes]);
+    io::write_all(1, b"\n");
 }
 
 fn run(text: &[u8], file: &mut [u8]) {
@@ -271,11 +332,7 @@ fn run(text: &[u8], file: &mut [u8]) {
     while at < text.len() {
         let colon = place_of(text, at, b':');
         let end = place_of(text, colon, b'\n');
-        io::write_all(1, &text[at..colon]);
-        io::write_all(1, b":");
-        let bytes = decode(&text[colon..end], file);
-        print_answers(&file[..bytes]);
-        io::write_all(1, b"\n");
+        answer(&text[at..colon], &text[colon..end], file);
         if end == text.len() {
             return;
         }
