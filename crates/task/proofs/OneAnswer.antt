@@ -1,19 +1,13 @@
--- Any two answers that a promise allows are equal, lent tables after the call included. Of a part that is handed back, its bytes and its
--- pointer are settled; its ghost name, by which only the logic knows it, is not.
+-- Any two answers that a promise allows are equal, the index that is left in lent memory included.
 -- Assumes nothing.
 use mathlib.Core.Path.{_≡_, sym, _∙_}
-use mathlib.Core.List.{List}
 use Prim.Native.Nat.{ℕ}
-use denote.Ref.{RefT, now, ptr}
-use Rattle.rules.specs.declared.Verdict.{Verdict}
+use denote.Ref.{now}
 use Rattle.task.specs.declared.numbering.ValuePlace.{ValuePlace}
 use Rattle.task.specs.declared.numbering.ActionNumber.{ActionNumber}
 use Rattle.task.specs.declared.numbering.FormulaNumber.{FormulaNumber}
 use Rattle.task.specs.declared.numbering.NumberRead.{NumberRead}
 use Rattle.task.specs.declared.state.State.{State}
-use Rattle.task.specs.Stretches.{Stretch}
-use Rattle.task.proofs.contents.contents_verdict.Reads as contents-verdict
-use Rattle.task.proofs.file.file_verdict.Reads as file-verdict
 use Rattle.task.proofs.index.offset.Reads as offset
 use Rattle.task.proofs.index.value_pairs_before.Reads as value-pairs-before
 use Rattle.task.proofs.index.values.Reads as values
@@ -39,8 +33,6 @@ use Rattle.task.proofs.asked.precondition.Reads as precondition
 use Rattle.task.proofs.asked.effect.Reads as effect
 use Rattle.task.proofs.numbering.value_number.Reads as value-number
 use Rattle.task.proofs.numbering.action_number.Reads as action-number
-use Rattle.task.proofs.contents.row_body.Reads as row-body
-use Rattle.task.proofs.contents.body_asked.Reads as body-asked
 use Rattle.task.proofs.filling.fill_index.Reads as fill-index
 use Rattle.task.proofs.numbering.nth_action.Reads as nth-action
 use Rattle.task.proofs.state.start_state.Reads as start-state
@@ -50,23 +42,6 @@ same-place r s x v p q = λ i. record { 0 = (p .0 ∙ sym (q .0)) i; 1 = (p .1 �
 
 same-number : (r s : FormulaNumber) (v : ℕ) → r .0 ≡ v → s .0 ≡ v → r ≡ s
 same-number r s v p q = λ i. record { 0 = (p ∙ sym q) i }
-
-same-stretch : (whole r s : RefT (List ℕ)) (at : ℕ) (bytes : List ℕ) → Stretch whole r at bytes → Stretch whole s at bytes → (now r ≡ now s) × (ptr r ≡ ptr s)
-same-stretch whole r s at bytes p q = (p .holds ∙ sym (q .holds), λ i. ((p .memory ∙ sym (q .memory)) i, (p .from ∙ sym (q .from)) i))
-
--- ---- the file
-
-pub one-contents-verdict : (κs : _) (a : _) (r s : Verdict) (x : _) → contents-verdict.Post κs a r x → contents-verdict.Post κs a s x → r ≡ s
-one-contents-verdict κs a r s x p q = p ∙ sym q
-
-pub one-file-verdict : (κs : _) (a : _) (r s : Verdict) (x : _) → file-verdict.Post κs a r x → file-verdict.Post κs a s x → r ≡ s
-one-file-verdict κs a r s x p q = p ∙ sym q
-
-pub one-row-body : (κs : _) (a : _) (r s : RefT (List ℕ)) (x : _) → row-body.Post κs a r x → row-body.Post κs a s x → (now r ≡ now s) × (ptr r ≡ ptr s)
-one-row-body κs a r s x p q = same-stretch _ r s _ _ p q
-
-pub one-body-asked : (κs : _) (a : _) (r s : RefT (List ℕ)) (x : _) → body-asked.Post κs a r x → body-asked.Post κs a s x → (now r ≡ now s) × (ptr r ≡ ptr s)
-one-body-asked κs a r s x p q = same-stretch _ r s _ _ p q
 
 -- ---- what is asked of an accepted file
 

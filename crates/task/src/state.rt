@@ -1,6 +1,6 @@
 // The state: one record of 96 values.
-use crate::contents::row_body;
-use crate::limits::MAX_VARIABLES;
+use reader::contents::row_body;
+use reader::limits::MAX_VARIABLES;
 ghost use mathlib.Core.Path.{_≡_};
 ghost use Rattle.rules.specs.File.{taskOf, fileVerdict};
 ghost use Rattle.rules.specs.Walk.{startState};
