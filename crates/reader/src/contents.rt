@@ -1,4 +1,5 @@
 // The table of contents: refusals 1 and 2, and the bodies that its rows name.
+use crate::limits::BYTE_VALUES;
 use crate::limits::CONTENTS_BYTES;
 use crate::limits::CONTENTS_ROWS;
 use crate::limits::MAX_FILE;
@@ -7,9 +8,9 @@ use rules::Refusal;
 use rules::Verdict;
 ghost use mathlib.Core.Path.{_≡_};
 ghost use mathlib.Core.List.{[]};
-ghost use Prim.Native.Nat.{_+_, _<_, _≤_};
+ghost use Prim.Native.Nat.{_+_, _*_, _<_, _≤_};
 ghost use lib.ListN.{length};
-ghost use Rattle.rules.specs.Limits.{contentsBytes, contentsRows};
+ghost use Rattle.rules.specs.Limits.{byteValues, contentsBytes, contentsRows};
 ghost use Rattle.rules.specs.File.{byte, word16, bodyStart, bodyLength, dueStart, rowAtFault, contentsVerdict, body, bodyAsked};
 ghost use Rattle.rules.specs.declared.Verdict.the-variants.{Accepted};
 ghost use Rattle.reader.specs.Stretches.{Stretch, startAsked};
@@ -17,7 +18,7 @@ ghost use Rattle.reader.specs.Stretches.{Stretch, startAsked};
 // The byte at place i.
 pub fn byte_at(s: &[u8], i: usize) -> usize
     requires { ⌜ i < length (now s) ⌝ }
-    ensures { λ r. ⌜ (r ≡ byte (now (s .entry)) i) × (r ≤ 255) ⌝ }
+    ensures { λ r. ⌜ (r ≡ byte (now (s .entry)) i) × (r < byteValues) ⌝ }
 {
     s[i] as usize
 }
@@ -25,15 +26,15 @@ pub fn byte_at(s: &[u8], i: usize) -> usize
 // Two bytes from place i on, low byte first.
 fn word_at(s: &[u8], i: usize) -> usize
     requires { ⌜ i + 1 < length (now s) ⌝ }
-    ensures { λ r. ⌜ (r ≡ word16 (now (s .entry)) i) × (r ≤ 65535) ⌝ }
+    ensures { λ r. ⌜ (r ≡ word16 (now (s .entry)) i) × (r < byteValues * byteValues) ⌝ }
 {
-    byte_at(s, i) + 256 * byte_at(s, i + 1)
+    byte_at(s, i) + BYTE_VALUES * byte_at(s, i + 1)
 }
 
 // Where row `row` says that its body starts.
 pub fn body_start(file: &[u8], row: usize) -> usize
     requires { ⌜ (contentsBytes ≤ length (now file)) × (row < contentsRows) ⌝ }
-    ensures { λ r. ⌜ (r ≡ bodyStart (now (file .entry)) row) × (r ≤ 65535) ⌝ }
+    ensures { λ r. ⌜ (r ≡ bodyStart (now (file .entry)) row) × (r < byteValues * byteValues) ⌝ }
 {
     word_at(file, ROW_BYTES * row)
 }
@@ -41,7 +42,7 @@ pub fn body_start(file: &[u8], row: usize) -> usize
 // How long row `row` says that its body is.
 pub fn body_length(file: &[u8], row: usize) -> usize
     requires { ⌜ (contentsBytes ≤ length (now file)) × (row < contentsRows) ⌝ }
-    ensures { λ r. ⌜ (r ≡ bodyLength (now (file .entry)) row) × (r ≤ 65535) ⌝ }
+    ensures { λ r. ⌜ (r ≡ bodyLength (now (file .entry)) row) × (r < byteValues * byteValues) ⌝ }
 {
     word_at(file, ROW_BYTES * row + 2)
 }

@@ -11,6 +11,8 @@ pub const MAX_ACTIONS: usize = 512;
 
 pub const MAX_PAIRS: usize = 8;
 
+pub const BYTE_VALUES: usize = 256;
+
 pub const CONTENTS_ROWS: usize = 4;
 
 pub const ROW_BYTES: usize = 4;

@@ -11,7 +11,7 @@ use mir.Val.{Fits}
 use lib.ListN.{length, getD, set, take, drop, length-append, length-drop, length-map, List·getD-eq-default}
 use lib.Seq.{length-take-le, drop-cons, set-at, take-at, drop-at, sets, sets-eq, length-sets, take-append-seam, drop-append-add, drop-drop, drop-length, getD-drop}
 use Rattle.rules.specs.Counting.{sumTo, forEach}
-use Rattle.rules.specs.Limits.{maxVariables, maxActions, pairBytes, countBytes}
+use Rattle.rules.specs.Limits.{byteValues, maxVariables, maxActions, pairBytes, countBytes}
 use Rattle.rules.specs.Counts.{pairsBelow}
 use Rattle.rules.specs.File.{byte, bodyStart, body, actionBytes, actionIn, rests, taskOf}
 use Rattle.rules.proofs.Counting.{sumTo-const, sumTo-ext, length-forEach}
@@ -72,8 +72,8 @@ pub record VariablesFilled (sizes table out : List ℕ) (x values pairs : ℕ) :
   pub rows : x ≤ variableRows
   pub room : length table ≡ variableWidth * variableRows
   pub room-still : length out ≡ variableWidth * variableRows
-  pub values-few : values ≤ 255 * x
-  pub pairs-few : pairs ≤ 65025 * x
+  pub values-few : values ≤ byteValues * x
+  pub pairs-few : pairs ≤ byteValues * byteValues * x
   pub values-are : values ≡ sumTo x (byte sizes)
   pub pairs-are : pairs ≡ sumTo x (λ y. pairsBelow (byte sizes y))
   pub filled : out ≡ over table (forEach x (variableRow sizes))
@@ -99,7 +99,7 @@ module _ (sizes table : List ℕ) where
         rw (f .values-are, f .pairs-are) (rows-more (variableRow sizes) variableWidth (wide-variable sizes) table out x (f .filled) (omega arith))
 
     pub variables-more : (after : List ℕ) (size more : ℕ) → x ≤ maxVariables → after ≡ sets out (variableWidth * x) (values ∷ pairs ∷ [])
-        → size ≡ byte sizes x → size ≤ 255 → more ≡ pairsBelow size → more ≤ 65025
+        → size ≡ byte sizes x → size < byteValues → more ≡ pairsBelow size → more < byteValues * byteValues
         → VariablesFilled sizes table after (x + 1) (values + size) (pairs + more)
     variables-more after size more l ea es bs em bm =
         record {
@@ -126,13 +126,13 @@ byte-past s i h = sym (List·getD-eq-default s 0 h)
 pub no-pairs : (m : ℕ) → m ≡ 0 → 0 ≡ pairsBelow m
 no-pairs m h = rw h
 
-few-pairs : (m : ℕ) → m ≤ 255 → m * (m - 1) ≤ 65025
-few-pairs m h = let l : m - 1 ≤ 255 = omega arith in omega (arith, mul-le-mul h l)
+few-pairs : (m : ℕ) → m < byteValues → m * (m - 1) < byteValues * byteValues
+few-pairs m h = let l : m - 1 ≤ byteValues - 1 = omega arith in let k : m ≤ byteValues - 1 = omega arith in omega (arith, mul-le-mul k l)
 
-pub pairs-fit : (m : ℕ) → m ≤ 255 → Fits w64 (m * (m - 1))
+pub pairs-fit : (m : ℕ) → m < byteValues → Fits w64 (m * (m - 1))
 pairs-fit m h = record { fits = omega (arith, few-pairs m h) }
 
-pub pairs-few : (m : ℕ) → m ≤ 255 → m * (m - 1) / 2 ≤ 65025
+pub pairs-few : (m : ℕ) → m < byteValues → m * (m - 1) / 2 < byteValues * byteValues
 pairs-few m h = omega (arith, few-pairs m h)
 
 module _ (s : List ℕ) (at b₀ b₁ : ℕ) (e₀ : b₀ ≡ byte s at) (e₁ : b₁ ≡ byte s (at + 1)) where
@@ -189,8 +189,8 @@ pub record ActionsFilled (start : ℕ) (s table out : List ℕ) (a at preconditi
   pub within : at ≤ length s
   pub room : length table ≡ actionWidth * actionRows
   pub room-still : length out ≡ actionWidth * actionRows
-  pub preconditions-few : preconditions ≤ 255 * a
-  pub effects-few : effects ≤ 255 * a
+  pub preconditions-few : preconditions ≤ byteValues * a
+  pub effects-few : effects ≤ byteValues * a
   pub reached : restAt s a ≡ drop at s
   pub preconditions-are : preconditions ≡ sumTo a (λ b. byte (restAt s b) 0)
   pub effects-are : effects ≡ sumTo a (λ b. byte (restAt s b) 1)
@@ -223,7 +223,7 @@ module _ (start : ℕ) (s table : List ℕ) where
 
     pub actions-more : (after : List ℕ) (p e next : ℕ) → a ≤ maxActions
         → after ≡ sets out (actionWidth * a) ((start + at) ∷ preconditions ∷ effects ∷ [])
-        → p ≡ byte s at → p ≤ 255 → e ≡ byte s (at + 1) → e ≤ 255
+        → p ≡ byte s at → p < byteValues → e ≡ byte s (at + 1) → e < byteValues
         → next ≤ length s → drop next s ≡ drop (actionBytes (drop at s)) (drop at s)
         → ActionsFilled start s table after (a + 1) next (preconditions + p) (effects + e)
     actions-more after p e next l ea ep bp ee be ln en =

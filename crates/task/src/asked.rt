@@ -13,7 +13,7 @@ use reader::limits::PAIR_BYTES;
 ghost use mathlib.Core.Path.{_≡_};
 ghost use Prim.Native.Nat.{_+_, _*_, _<_, _≤_};
 ghost use lib.ListN.{length};
-ghost use Rattle.rules.specs.Limits.{pairBytes};
+ghost use Rattle.rules.specs.Limits.{byteValues, pairBytes};
 ghost use Rattle.rules.specs.Task.{n, d, A as actionCount, startValue, pair, action};
 ghost use Rattle.rules.specs.File.{byte, taskOf, fileVerdict};
 ghost use Rattle.rules.specs.declared.Verdict.the-variants.{Accepted};
@@ -22,7 +22,7 @@ ghost use Rattle.task.specs.Index.{actionPlace, Indexed};
 // The byte i bytes behind a place.
 fn byte_behind(file: &[u8], place: usize, i: usize) -> usize
     requires { ⌜ place + i < length (now file) ⌝ }
-    ensures { λ r. ⌜ (r ≡ byte (now (file .entry)) (place + i)) × (r ≤ 255) ⌝ }
+    ensures { λ r. ⌜ (r ≡ byte (now (file .entry)) (place + i)) × (r < byteValues) ⌝ }
 {
     byte_at(file, place + i)
 }

@@ -16,7 +16,7 @@ ghost use Prim.Native.Nat.{_+_, _*_, _<_, _≤_};
 ghost use lib.ListN.{length, take, drop};
 ghost use lib.Seq.{sets};
 ghost use Rattle.rules.specs.Counting.{forEach};
-ghost use Rattle.rules.specs.Limits.{maxFile};
+ghost use Rattle.rules.specs.Limits.{byteValues, maxFile};
 ghost use Rattle.rules.specs.Counts.{pairsBelow};
 ghost use Rattle.rules.specs.File.{byte, actionBytes, rests, fileVerdict};
 ghost use Rattle.rules.specs.declared.Verdict.the-variants.{Accepted};
@@ -24,7 +24,7 @@ ghost use Rattle.task.specs.Index.{variableRow, actionRow, variableRows,
 
 // The byte at place i, 0 past the end.
 fn byte_if_any(s: &[u8], i: usize) -> usize
-    ensures { λ r. ⌜ (r ≡ byte (now (s .entry)) i) × (r ≤ 255) ⌝ }
+    ensures { λ r. ⌜ (r ≡ byte (now (s .entry)) i) × (r < byteValues) ⌝ }
 {
     if s.len() <= i {
         return 0;
@@ -34,8 +34,8 @@ fn byte_if_any(s: &[u8], i: usize) -> usize
 
 // How many pairs of different values there are among m.
 fn pairs_below(m: usize) -> usize
-    requires { ⌜ m ≤ 255 ⌝ }
-    ensures { λ r. ⌜ (r ≡ pairsBelow m) × (r ≤ 65025) ⌝ }
+    requires { ⌜ m < byteValues ⌝ }
+    ensures { λ r. ⌜ (r ≡ pairsBelow m) × (r < byteValues * byteValues) ⌝ }
 {
     if m == 0 {
         return 0;

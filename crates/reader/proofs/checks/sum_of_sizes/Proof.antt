@@ -4,6 +4,7 @@ use borrow.Author.Needs.{needs}
 use mathlib.Core.Path.{_≡_}
 use Prim.Native.Nat.{_≤_, _*_, _-_}
 use lib.ListN.{length}
+use Rattle.rules.specs.Limits.{byteValues}
 use Rattle.rules.specs.Counting.{sumTo}
 use Rattle.rules.specs.Task.{d}
 use Rattle.reader.specs.Bodies.{sized}
@@ -13,7 +14,7 @@ use Rattle.reader.proofs.checks.sum_of_sizes.Statement.{statement}
 use Rattle.reader.proofs.checks.sum_of_sizes.Tie as tie
 
 abbrev Inv-loop : tie.InvT-loop
-Inv-loop sizes x₀ sum₀ x sum = (x ≤ length sizes) × (sum ≤ 255 * x) × (sum ≡ sumTo x (d (sized sizes)))
+Inv-loop sizes x₀ sum₀ x sum = (x ≤ length sizes) × (sum ≤ byteValues * x) × (sum ≡ sumTo x (d (sized sizes)))
 
 abbrev μ-loop : tie.MeasureT-loop
 μ-loop sizes x₀ sum₀ x sum = length sizes - x
