@@ -1,0 +1,2 @@
+-- What is proved of the reader's definitions.
+pub mod WordLaws

@@ -1,0 +1,2 @@
+// The reader of solver output.
+mod words;
