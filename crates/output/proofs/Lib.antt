@@ -1,2 +1,3 @@
 -- What is proved of the reader's definitions.
 pub mod WordLaws
+pub mod TrialLaws

@@ -123,6 +123,10 @@ run-most : (s : List ℕ) → digitRun s ≤ maxDigits
 unfolding digitRun
 run-most s = omega arith
 
+sign-most : (b : Bool) → cond b 1 0 ≤ 1
+sign-most true = omega arith
+sign-most false = omega arith
+
 signed-is : (b : Bool) → eqb (cond b 1 0) 1 ≡ b
 signed-is true = refl
 signed-is false = refl
@@ -205,3 +209,10 @@ unfolding wordOf isNumber variableOf
 number-is w sign reached v e r l h d =
     rw (eq-eqb (reach w) (length w) (sym r ∙ l), lt-ltb (signBytes w) (reach w) (omega (arith, e, r)))
     (ap₂ Number (d ∙ ap (valueFrom 0) (digits-are w sign e)) (ap (λ k. eqb k 1) e ∙ signed-is (isNegative w)))
+
+pub reach-most : (w : List ℕ) → reach w ≤ maxDigits + 1
+reach-most w =
+    ⊎-elim
+    (λ t. omega (arith, reaches-one w (eqb-true (byte (digits w) 0) digit0 t)))
+    (λ t. omega (arith, sign-most (isNegative w), reaches-run w (eqb-false (byte (digits w) 0) digit0 t), run-most (digits w)))
+    (either (eqb (byte (digits w) 0) digit0))

@@ -1,2 +1,3 @@
 -- What the reader of solver lines does on its way, as definitions; what it answers is the rules' own.
 pub mod Words
+pub mod Trial

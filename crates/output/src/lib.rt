@@ -1,2 +1,3 @@
 // The reader of solver output.
 mod words;
+mod numbers;
