@@ -49,12 +49,15 @@ pub record Trial : Type 0 where
   pub answer : Tried
   pub row : List ℕ
 
+abbrev pub trialLeaves : Tried → List ℕ → Trial
+trialLeaves answer row = record { answer = answer; row = row }
+
 abbrev pub onward : Verdict → (gap : ℕ) (row : List ℕ) → Trial → Trial
 onward Accepted gap row next = next
-onward (Refused why) gap row next = record { answer = Tried.Stopped why gap; row = row }
+onward (Refused why) gap row next = trialLeaves (Tried.Stopped why gap) row
 
 unfoldable pub trial : (highest : ℕ) (row : List ℕ) (gap : ℕ) (closed : Bool) → List (List ℕ) → Trial
-trial highest row gap closed [] = record { answer = Tried.Through closed; row = row }
+trial highest row gap closed [] = trialLeaves (Tried.Through closed) row
 trial highest row gap closed (p ∷ ps) =
     let scan : Scan = pieceScan highest row (suc gap) closed p in
     onward (scan .verdict) gap row (trial highest (written true row p) (gap + suc (length p)) (scan .closed) ps)

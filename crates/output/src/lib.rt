@@ -1,3 +1,3 @@
 // The reader of solver output.
-mod words;
 mod numbers;
+mod words;

@@ -1,13 +1,14 @@
 // The numbers of a "v" line, tried from left to right in the row of given variables.
-use rules::Refusal;
 use crate::words;
 use crate::words::Word;
+use rules::Refusal;
 ghost use mathlib.Core.Path.{_≡_};
-ghost use mathlib.Core.Bool.{true};
+ghost use mathlib.Core.Bool.{false, not, _&&_};
 ghost use Prim.Native.Nat.{_≤_, _+_};
 ghost use lib.ListN.{length};
 ghost use Rattle.rules.specs.Limits.{maxLine};
-ghost use Rattle.output.specs.Trial.{pieceLeaves, tryPiece, trial, firstGap, numberPieces, rewritten};
+ghost use Rattle.rules.specs.Lines.{isNegative};
+ghost use Rattle.output.specs.Trial.{written, pieceLeaves, tryPiece, trialLeaves, trial, firstGap, numberPieces, rewritten};
 
 // A piece is taken, and says whether the model is closed now, or it is refused.
 pub enum Piece {
@@ -47,5 +48,64 @@ fn take_piece(highest: usize, closed: bool, given: &mut [u64], piece: &[u8], at:
             rows::set_bit(given, variable, true);
             Piece::Taken(false)
         }
+    }
+}
+
+// The numbers of a line are tried: those before a refused one stay marked.
+fn try_numbers(highest: usize, given: &mut [u64], line: &[u8]) -> Tried
+    requires { ⌜ length (now line) ≤ maxLine ⌝ }
+    ensures { λ r. ⌜ trialLeaves r (now (given .exit)) ≡ trial highest (now (given .entry)) firstGap false (numberPieces (now (line .entry))) ⌝ }
+{
+    let mut closed = false;
+    let mut gap = 1;
+    while gap < line.len() {
+        let at = gap + 1;
+        let end = words::word_end(line, at);
+        match take_piece(highest, closed, given, &line[at..end], at) {
+            Piece::Refused(why) => {
+                return Tried::Stopped(why, gap);
+            }
+            Piece::Taken(after) => {
+                closed = after;
+            }
+        }
+        gap = end;
+    }
+    Tried::Through(closed)
+}
+
+// The bit that a number's sign asks for, where signs count.
+fn bit_for(signs: bool, negative: bool) -> bool
+    ensures { λ r. ⌜ r ≡ (signs && not negative) ⌝ }
+{
+    if signs {
+        return !negative;
+    }
+    false
+}
+
+// The bit of the variable that a word names, if it names one, is written: its sign, or 0.
+fn write_word(row: &mut [u64], word: &[u8], signs: bool)
+    ensures { λ r. ⌜ now (row .exit) ≡ written (signs && not (isNegative (now (word .entry)))) (now (row .entry)) (now (word .entry)) ⌝ }
+{
+    let Word::Number(variable, negative) = words::word_of(word) else {
+        return;
+    };
+    if variable != 0 {
+        rows::set_bit(row, variable, bit_for(signs, negative));
+    }
+}
+
+// The numbers before the gap at `stop` are written once more: their signs, or 0 for each.
+fn write_numbers(row: &mut [u64], line: &[u8], stop: usize, signs: bool)
+    requires { ⌜ stop ≤ length (now line) ⌝ }
+    ensures { λ r. ⌜ now (row .exit) ≡ rewritten signs stop (now (row .entry)) firstGap (numberPieces (now (line .entry))) ⌝ }
+{
+    let mut gap = 1;
+    while gap < stop {
+        let at = gap + 1;
+        let end = words::word_end(line, at);
+        write_word(row, &line[at..end], signs);
+        gap = end;
     }
 }
