@@ -1,3 +1,4 @@
 -- What is proved of the reader's definitions.
 pub mod WordLaws
 pub mod TrialLaws
+pub mod ScanLaws

@@ -132,11 +132,11 @@ module _ (highest : ℕ) (row : List ℕ) (scan : Scan) (p : List ℕ) where
   passes a b c d = last-rule true a b c d ∙ judge-passed (demand true (GivenBefore (scan .at))) [] refl ∙ judge-nil
 
 -- a word writes the bit of the variable that it names
-written-none : (on : Bool) (row p : List ℕ) → variableOf p ≡ 0 → written on row p ≡ row
+pub written-none : (on : Bool) (row p : List ℕ) → variableOf p ≡ 0 → written on row p ≡ row
 unfolding written
 written-none on row p u = ⊎-elim (λ t. rw t (rw (eq-eqb (variableOf p) 0 u))) (λ t. rw t) (either (isNumber p))
 
-written-one : (on : Bool) (row p : List ℕ) → isNumber p ≡ true → (variableOf p ≡ 0 → ⊥) → written on row p ≡ withVariable row (variableOf p) on
+pub written-one : (on : Bool) (row p : List ℕ) → isNumber p ≡ true → (variableOf p ≡ 0 → ⊥) → written on row p ≡ withVariable row (variableOf p) on
 unfolding written
 written-one on row p a u = rw (a, ne-eqb (variableOf p) 0 u)
 
@@ -291,12 +291,12 @@ module _ (highest : ℕ) (row : List ℕ) (closed : Bool) (line : List ℕ) (gap
 
 -- ---- the loop that writes the numbers before a gap once more
 
-rewritten-next : (signs : Bool) (stop : ℕ) (row : List ℕ) (gap : ℕ) (p : List ℕ) (ps : List (List ℕ)) → gap < stop
+pub rewritten-next : (signs : Bool) (stop : ℕ) (row : List ℕ) (gap : ℕ) (p : List ℕ) (ps : List (List ℕ)) → gap < stop
     → rewritten signs stop row gap (p ∷ ps) ≡ rewritten signs stop (written (signs && not (isNegative p)) row p) (gap + suc (length p)) ps
 unfolding rewritten
 rewritten-next signs stop row gap p ps h = rw (lt-ltb gap stop h)
 
-rewritten-all : (signs : Bool) (stop : ℕ) (row : List ℕ) (gap : ℕ) (ps : List (List ℕ)) → stop ≤ gap → rewritten signs stop row gap ps ≡ row
+pub rewritten-all : (signs : Bool) (stop : ℕ) (row : List ℕ) (gap : ℕ) (ps : List (List ℕ)) → stop ≤ gap → rewritten signs stop row gap ps ≡ row
 unfolding rewritten
 rewritten-all signs stop row gap [] h = refl
 rewritten-all signs stop row gap (p ∷ ps) h = rw (le-ltb gap stop h) (rewritten-all signs stop row (gap + suc (length p)) ps (omega arith))
