@@ -4,7 +4,8 @@
 use mathlib.Core.Path.{_≡_, refl, sym, ap, ap₂, _∙_}
 use mathlib.Core.Logic.{⊎-elim}
 use mathlib.Core.Bool.{Bool, true, false, cond, not, _&&_, _||_, or-assoc, or-false}
-use mathlib.Core.List.{List, [], _∷_, _++_, foldl-append}
+use mathlib.Core.List.{List, [], _∷_, _++_, tail, foldl-append}
+use Prim.Native.Char.{code}
 use Prim.Native.Nat.{ℕ, zero, suc, _+_, _-_, _*_, _/_, _≤_, _<_}
 use native.Mathlib.Omega.{arith}
 use native.Mathlib.Numerals.{add-one}
@@ -13,21 +14,27 @@ use lib.Dec.{eqb, leb, ltb}
 use lib.ListN.{length, drop, length-drop}
 use Rattle.rules.specs.Counting.{first, any}
 use Rattle.rules.specs.Answers.{Rule, demand, judge}
+use Rattle.rules.specs.File.{byte}
 use Rattle.rules.specs.Text.{space}
 use Rattle.rules.specs.Families.{Literal, plus, minus}
 use Rattle.rules.specs.Rows.{wordBits, wordsFor, bitOfVariable, withVariable, Rows, store, storeAll}
-use Rattle.rules.specs.Lines.{onto, pieces, reach, isNumber, isNegative, variableOf, literalOf, names, Scan, wordRules, scanWord, scanPiece, goOn, scanPieces}
+use Rattle.rules.specs.Lines.{onto, pieces, reach, isNumber, isNegative, variableOf, literalOf, names, Scan, wordRules, scanWord, scanPiece, goOn, scanPieces, scanStart, scanLine}
 use Rattle.rules.specs.declared.Refusal.{Refusal}
 use Rattle.rules.specs.declared.Refusal.the-variants.{Grammar, OutOfPlace, OverN, GivenBefore}
 use Rattle.rules.specs.declared.Verdict.{Verdict}
 use Rattle.rules.specs.declared.Verdict.the-variants.{Accepted, Refused}
-use Rattle.rules.proofs.Bools.{either, clash, or-right}
+use Rattle.rules.proofs.Bools.{either, clash, or-right, or-cases, not-true}
 use Rattle.rules.proofs.Judging.{judge-head, judge-tail}
 use Rattle.rows.proofs.Bits.{length-with, bit-written, bit-kept, with-restored, with-order}
 use Rattle.output.specs.Words.{piecesBehind}
-use Rattle.output.specs.Trial.{written, pieceScan, Trial, trialLeaves, trial, rewritten}
+use Rattle.output.specs.Trial.{written, pieceScan, Trial, trialLeaves, trial, firstGap, numberPieces, rewritten}
 use Rattle.output.specs.declared.numbers.Tried.{Tried}
+use Rattle.output.proofs.WordLaws.{there}
 use Rattle.output.proofs.TrialLaws.{written-none, written-one, rewritten-next, rewritten-all}
+
+or-none : (a b : Bool) → (a || b) ≡ false → a ≡ false
+or-none true b h = h
+or-none false b h = refl
 
 -- ---- marks in a row
 
@@ -283,3 +290,120 @@ module _ (highest : ℕ) (rows₀ : Rows) (fit : wordsFor highest ≤ length (ro
   agree stop [] = agree-none stop
   agree stop ([] ∷ ps) = agree-empty stop ps (agree stop ps)
   agree stop ((b ∷ w) ∷ ps) = λ scan rows gap r h. agree-word stop b w ps (agree stop ps) scan rows gap r h _ refl
+
+-- ---- a stopped trial is taken back
+
+-- bits are cleared in either order
+clears-order : (row : List ℕ) (u v : ℕ) → withVariable (withVariable row u false) v false ≡ withVariable (withVariable row v false) u false
+unfolding withVariable
+clears-order row u v =
+    ⊎-elim (λ t. rw (eqb-true (u - 1) (v - 1) t)) (λ t. with-order row u v false false (eqb-false (u - 1) (v - 1) t)) (either (eqb (u - 1) (v - 1)))
+
+clear-order : (row p q : List ℕ) → written false (written false row p) q ≡ written false (written false row q) p
+unfolding written
+clear-order row p q = each (isNumber p && not (eqb (variableOf p) 0)) (isNumber q && not (eqb (variableOf q) 0))
+  where
+    each : (a b : Bool) → cond b (withVariable (cond a (withVariable row (variableOf p) false) row) (variableOf q) false) (cond a (withVariable row (variableOf p) false) row)
+        ≡ cond a (withVariable (cond b (withVariable row (variableOf q) false) row) (variableOf p) false) (cond b (withVariable row (variableOf q) false) row)
+    each true true = clears-order row (variableOf p) (variableOf q)
+    each true false = refl
+    each false true = refl
+    each false false = refl
+
+clear-last : (stop : ℕ) (row : List ℕ) (gap : ℕ) (p : List ℕ) (ps : List (List ℕ))
+    → rewritten false stop (written false row p) gap ps ≡ written false (rewritten false stop row gap ps) p
+unfolding rewritten
+clear-last stop row gap p [] = refl
+clear-last stop row gap p (q ∷ ps) =
+    ⊎-elim
+    (λ t. rw t (ap (λ r. rewritten false stop r (gap + suc (length q)) ps) (clear-order row p q) ∙ clear-last stop (written false row q) (gap + suc (length q)) p ps))
+    (λ t. rw t (clear-last stop row (gap + suc (length q)) p ps))
+    (either (ltb gap stop))
+
+-- a word that passed had its bit 0
+clear-marked : (highest : ℕ) (row : List ℕ) (scan : Scan) (p : List ℕ) → judge (wordRules highest row scan p) ≡ Accepted
+    → written false (written true row p) p ≡ row
+clear-marked highest row scan p ok =
+    let a : isNumber p ≡ true = passed-number highest row scan p ok in
+    let v : ℕ = variableOf p in
+    ⊎-elim
+    (λ t. written-none false (written true row p) p (eqb-true v 0 t) ∙ written-none true row p (eqb-true v 0 t))
+    (λ t.
+    written-one false (written true row p) p a (eqb-false v 0 t)
+    ∙ ap (λ r. withVariable r v false) (written-one true row p a (eqb-false v 0 t))
+    ∙ with-restored row v false true
+    (or-none _ (any (names v) (scan .named)) (not-true _ (rw t at (passed-new highest row scan p ok)))))
+    (either (eqb v 0))
+
+-- how a trial left the row, and that it stopped behind where it began
+abbrev Back : (highest : ℕ) → List ℕ → ℕ → Bool → List (List ℕ) → Type 0
+Back highest row gap closed ps =
+    (why : Refusal) (stop : ℕ) → trial highest row gap closed ps .answer ≡ Tried.Stopped why stop
+    → (gap ≤ stop) × (stop < gap + total ps) × (rewritten false stop (trial highest row gap closed ps .row) gap ps ≡ row)
+
+back-none : (highest : ℕ) (row : List ℕ) (gap : ℕ) (closed : Bool) → Back highest row gap closed []
+unfolding trial
+back-none highest row gap closed why stop e =
+    let f : Tried.Through closed ≡ Tried.Stopped why stop = e in let z : _≡_ {A = ℕ} 0 1 = cc in absurd (omega arith)
+
+back-empty : (highest : ℕ) (row : List ℕ) (gap : ℕ) (closed : Bool) (ps : List (List ℕ)) → Back highest row (gap + 1) closed ps → Back highest row gap closed ([] ∷ ps)
+unfolding total
+back-empty highest row gap closed ps rest =
+    rw (trial-empty highest row gap closed ps) (λ why stop e.
+    (omega (arith, rest why stop e .0), omega (arith, rest why stop e .1), rewritten-empty false stop (trial highest row (gap + 1) closed ps .row) gap ps ∙ rest why stop e .2))
+
+back-word : (highest : ℕ) (row : List ℕ) (gap : ℕ) (closed : Bool) (b : ℕ) (w : List ℕ) (ps : List (List ℕ))
+    → Back highest (written true row (b ∷ w)) (gap + suc (length (b ∷ w))) (closed || eqb (variableOf (b ∷ w)) 0) ps
+    → (judged : Verdict) → judge (wordRules highest row (record { verdict = Accepted; at = suc gap; closed = closed; named = [] }) (b ∷ w)) ≡ judged
+    → Back highest row gap closed ((b ∷ w) ∷ ps)
+unfolding total
+back-word highest row gap closed b w ps rest Accepted ok =
+    rw (trial-word-passed highest row gap closed b w ps ok) (λ why stop e.
+    let p : List ℕ = b ∷ w in
+    let end : List ℕ = trial highest (written true row p) (gap + suc (length p)) (closed || eqb (variableOf p) 0) ps .row in
+    let behind : gap + suc (length p) ≤ stop = rest why stop e .0 in
+    let before : stop < gap + suc (length p) + total ps = rest why stop e .1 in
+    (omega arith,
+    omega arith,
+    rewritten-next false stop end gap p ps (omega arith)
+    ∙ clear-last stop end (gap + suc (length p)) p ps
+    ∙ ap (λ r. written false r p) (rest why stop e .2)
+    ∙ clear-marked highest row _ p ok))
+back-word highest row gap closed b w ps rest (Refused y) ok =
+    rw (trial-word-refused highest row gap closed b w ps y ok) (λ why stop e.
+    let here : gap ≡ stop = (let f : Tried.Stopped y gap ≡ Tried.Stopped why stop = e in cc) in
+    (omega arith, omega arith, rewritten-all false stop row gap ((b ∷ w) ∷ ps) (omega arith)))
+
+back : (highest : ℕ) (row : List ℕ) (gap : ℕ) (closed : Bool) (ps : List (List ℕ)) → Back highest row gap closed ps
+back highest row gap closed [] = back-none highest row gap closed
+back highest row gap closed ([] ∷ ps) = back-empty highest row gap closed ps (back highest row (gap + 1) closed ps)
+back highest row gap closed ((b ∷ w) ∷ ps) =
+    back-word highest row gap closed b w ps
+    (back highest (written true row (b ∷ w)) (gap + suc (length (b ∷ w))) (closed || eqb (variableOf (b ∷ w)) 0) ps) _ refl
+
+-- ---- a whole line of numbers
+
+tail-pieces : (line : List ℕ) → byte line 0 ≡ code "v" → (eqb (length line) 1 || eqb (byte line 1) space) ≡ true → tail (pieces space line) ≡ numberPieces line
+unfolding pieces piecesBehind numberPieces
+tail-pieces [] e h = absurd (omega arith)
+tail-pieces (b ∷ []) e h = rw e refl
+tail-pieces (b ∷ (d ∷ s)) e h =
+    ⊎-elim (λ t. absurd (omega (arith, eqb-true (length (b ∷ (d ∷ s))) 1 t))) (λ t. rw (e, eqb-true d space t) refl)
+    (or-cases (eqb (length (b ∷ (d ∷ s))) 1) (eqb d space) h)
+
+module _ (highest : ℕ) (rows : Rows) (line : List ℕ) (fit : wordsFor highest ≤ length (rows .given))
+    (v : byte line 0 ≡ code "v") (alone : (eqb (length line) 1 || eqb (byte line 1) space) ≡ true) where
+  total-line : firstGap + total (numberPieces line) ≡ length line
+  unfolding numberPieces
+  total-line =
+      omega (arith, total-behind space (drop 1 line), length-drop 1 line, there line 0 117 v)
+
+  line-agrees : Agree highest rows fit
+      (trial highest (rows .given) firstGap false (numberPieces line) .answer) (trial highest (rows .given) firstGap false (numberPieces line) .row)
+      (rewritten true (length line) (rows .isTrue) firstGap (numberPieces line)) (scanLine highest (rows .given) line)
+  unfolding scanLine storeAll any
+  line-agrees =
+      rw (tail-pieces line v alone)
+      (agree highest rows fit (length line) (numberPieces line) scanStart rows firstGap
+      (record { so-far = refl; place = refl; stored = refl; long = refl; bits = λ u h l. sym (or-false (bitOfVariable (rows .given) u)) })
+      (omega (arith, total-line)))

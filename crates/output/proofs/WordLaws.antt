@@ -75,7 +75,7 @@ pub byte-past : (s : List ℕ) (i : ℕ) → length s ≤ i → 0 ≡ byte s i
 byte-past s i h = sym (List·getD-eq-default s 0 h)
 
 -- a byte that is not 0 is there
-there : (s : List ℕ) (i b : ℕ) → byte s i ≡ suc b → i < length s
+pub there : (s : List ℕ) (i b : ℕ) → byte s i ≡ suc b → i < length s
 there s i b e = ⊎-elim (λ l. l) (λ l. absurd (omega (arith, byte-past s i l))) (below-or i (length s))
 
 pub sign-one : (w : List ℕ) (b : ℕ) → b ≡ byte w 0 → b ≡ dash → 1 ≡ signBytes w
