@@ -2,3 +2,4 @@
 pub mod WordLaws
 pub mod TrialLaws
 pub mod ScanLaws
+pub mod StatusLaws

@@ -166,7 +166,7 @@ module _ (highest : ℕ) (rows₀ : Rows) (fit : wordsFor highest ≤ length (ro
     stored : rows ≡ storeAll rows₀ (scan .named)
     long : length (rows .given) ≡ length (rows₀ .given)
     bits : (v : ℕ) → 0 < v → (v - 1) / wordBits < length (rows .given)
-      → bitOfVariable (rows .given) v ≡ (bitOfVariable (rows₀ .given) v || any (names v) (scan .named))
+        → bitOfVariable (rows .given) v ≡ (bitOfVariable (rows₀ .given) v || any (names v) (scan .named))
 
   in-row : (rows : Rows) (v : ℕ) → length (rows .given) ≡ length (rows₀ .given) → 0 < v → v ≤ highest → (v - 1) / wordBits < length (rows .given)
   in-row rows v l z h = omega arith
@@ -223,15 +223,15 @@ module _ (highest : ℕ) (rows₀ : Rows) (fit : wordsFor highest ≤ length (ro
           stored = rw (ne-eqb (variableOf p) 0 z) (ap (λ s. store s (literalOf p)) (r .stored) ∙ store-last rows₀ (scan .named) (literalOf p));
           long = ap length (store-given rows p) ∙ length-with (rows .given) (variableOf p) true ∙ r .long;
           bits =
-            λ u hu l.
-            rw (ne-eqb (variableOf p) 0 z)
-            (ap (λ row. bitOfVariable row u) (store-given rows p)
-            ∙ bit-marked (rows .given) (variableOf p) u (omega (arith, z)) hu
-            (in-row rows (variableOf p) (r .long) (omega (arith, z)) (passed-small highest (rows₀ .given) scan p ok))
-            ∙ ap (λ b. b || eqb (variableOf p) u) (r .bits u hu (omega (arith, ap length (store-given rows p), length-with (rows .given) (variableOf p) true)))
-            ∙ or-assoc (bitOfVariable (rows₀ .given) u) (any (names u) (scan .named)) (eqb (variableOf p) u)
-            ∙ ap (λ b. bitOfVariable (rows₀ .given) u || b)
-            (ap (λ b. any (names u) (scan .named) || b) (sym (names-literal u p)) ∙ sym (any-snoc (names u) (scan .named) (literalOf p))));
+              λ u hu l.
+              rw (ne-eqb (variableOf p) 0 z)
+              (ap (λ row. bitOfVariable row u) (store-given rows p)
+              ∙ bit-marked (rows .given) (variableOf p) u (omega (arith, z)) hu
+              (in-row rows (variableOf p) (r .long) (omega (arith, z)) (passed-small highest (rows₀ .given) scan p ok))
+              ∙ ap (λ b. b || eqb (variableOf p) u) (r .bits u hu (omega (arith, ap length (store-given rows p), length-with (rows .given) (variableOf p) true)))
+              ∙ or-assoc (bitOfVariable (rows₀ .given) u) (any (names u) (scan .named)) (eqb (variableOf p) u)
+              ∙ ap (λ b. bitOfVariable (rows₀ .given) u || b)
+              (ap (λ b. any (names u) (scan .named) || b) (sym (names-literal u p)) ∙ sym (any-snoc (names u) (scan .named) (literalOf p))));
         }
 
   abbrev Agreed : (stop : ℕ) → List (List ℕ) → Scan → Rows → ℕ → Type 0
@@ -267,9 +267,11 @@ module _ (highest : ℕ) (rows₀ : Rows) (fit : wordsFor highest ≤ length (ro
     agree-passed e =
         let p : List ℕ = b ∷ w in
         let a : isNumber p ≡ true = passed-number highest (rows₀ .given) scan p e in
-        rw (trial-word-passed highest (rows .given) gap (scan .closed) b w ps (sym (same-verdict scan rows gap (b ∷ w) r) ∙ e),
-        rewritten-next true stop (rows .isTrue) gap (b ∷ w) ps (omega arith),
-        scan-next highest (rows₀ .given) scan (b ∷ w) ps (r .so-far))
+        rw (
+          trial-word-passed highest (rows .given) gap (scan .closed) b w ps (sym (same-verdict scan rows gap (b ∷ w) r) ∙ e),
+          rewritten-next true stop (rows .isTrue) gap (b ∷ w) ps (omega arith),
+          scan-next highest (rows₀ .given) scan (b ∷ w) ps (r .so-far),
+        )
         (⊎-elim
         (λ t.
         let z : variableOf p ≡ 0 = eqb-true (variableOf p) 0 t in
@@ -277,8 +279,10 @@ module _ (highest : ℕ) (rows₀ : Rows) (fit : wordsFor highest ≤ length (ro
         (rest (scanPiece highest (rows₀ .given) scan p) rows (gap + suc (length p)) (ready-zero scan rows gap p r e z) (omega arith)))
         (λ t.
         let z : variableOf p ≡ 0 → ⊥ = eqb-false (variableOf p) 0 t in
-        rw (written-one true (rows .given) p a z ∙ sym (store-given rows p),
-        written-one (not (isNegative p)) (rows .isTrue) p a z ∙ sym (store-true rows p))
+        rw (
+          written-one true (rows .given) p a z ∙ sym (store-given rows p),
+          written-one (not (isNegative p)) (rows .isTrue) p a z ∙ sym (store-true rows p),
+        )
         (rest (scanPiece highest (rows₀ .given) scan p) (store rows (literalOf p)) (gap + suc (length p)) (ready-one scan rows gap p r e z) (omega arith)))
         (either (eqb (variableOf p) 0)))
 
@@ -362,13 +366,14 @@ back-word highest row gap closed b w ps rest Accepted ok =
     let p : List ℕ = b ∷ w in
     let end : List ℕ = trial highest (written true row p) (gap + suc (length p)) (closed || eqb (variableOf p) 0) ps .row in
     let behind : gap + suc (length p) ≤ stop = rest why stop e .0 in
-    let before : stop < gap + suc (length p) + total ps = rest why stop e .1 in
-    (omega arith,
-    omega arith,
-    rewritten-next false stop end gap p ps (omega arith)
-    ∙ clear-last stop end (gap + suc (length p)) p ps
-    ∙ ap (λ r. written false r p) (rest why stop e .2)
-    ∙ clear-marked highest row _ p ok))
+    let before : stop < gap + suc (length p) + total ps = rest why stop e .1 in (
+      omega arith,
+      omega arith,
+      rewritten-next false stop end gap p ps (omega arith)
+          ∙ clear-last stop end (gap + suc (length p)) p ps
+          ∙ ap (λ r. written false r p) (rest why stop e .2)
+          ∙ clear-marked highest row _ p ok,
+    ))
 back-word highest row gap closed b w ps rest (Refused y) ok =
     rw (trial-word-refused highest row gap closed b w ps y ok) (λ why stop e.
     let here : gap ≡ stop = (let f : Tried.Stopped y gap ≡ Tried.Stopped why stop = e in cc) in

@@ -1,3 +1,4 @@
 // The reader of solver output.
 mod numbers;
+mod status;
 mod words;

@@ -1,0 +1,19 @@
+-- What a call leaves: its answer and the two lent rows.
+-- Assumes nothing.
+use mathlib.Core.List.{List, []}
+use Prim.Native.Nat.{ℕ}
+use Rattle.rules.specs.Rows.{Rows}
+use Rattle.rules.specs.Lines.{Kind, kindVerdict, phaseAfter, Progress, progress}
+use Rattle.rules.specs.declared.LineAnswer.{LineAnswer}
+use Rattle.rules.specs.declared.Reading.{Reading}
+
+abbrev pub lent : (given isTrue : List ℕ) → Rows
+lent given isTrue = record { given = given; isTrue = isTrue }
+
+abbrev pub leaves : LineAnswer → (given isTrue : List ℕ) → Progress
+leaves answer given isTrue = record { answer = answer; rows = lent given isTrue }
+
+-- the answer to a line of a kind that reads no row
+unfoldable pub answerTo : Kind → Reading → List ℕ → LineAnswer
+answerTo kind reading line =
+    progress (kindVerdict kind reading [] line) (record { highest = reading .highest; phase = phaseAfter kind reading [] line }) [] (lent [] []) .answer
