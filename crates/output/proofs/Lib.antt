@@ -3,3 +3,4 @@ pub mod WordLaws
 pub mod TrialLaws
 pub mod ScanLaws
 pub mod StatusLaws
+pub mod LineLaws

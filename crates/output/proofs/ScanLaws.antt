@@ -191,7 +191,7 @@ module _ (highest : ℕ) (rows₀ : Rows) (fit : wordsFor highest ≤ length (ro
       (either (leb (variableOf p) highest))
 
   -- how the trial and the scan of what is left end
-  abbrev Agree : Tried → (given isTrue : List ℕ) → Scan → Type 0
+  abbrev pub Agree : Tried → (given isTrue : List ℕ) → Scan → Type 0
   Agree (Tried.Through c) given isTrue s =
       (s .verdict ≡ Accepted) × (s .closed ≡ c) × (_≡_ {A = Rows} (record { given = given; isTrue = isTrue }) (storeAll rows₀ (s .named)))
   Agree (Tried.Stopped why gap) given isTrue s = s .verdict ≡ Refused why
@@ -403,7 +403,7 @@ module _ (highest : ℕ) (rows : Rows) (line : List ℕ) (fit : wordsFor highest
   total-line =
       omega (arith, total-behind space (drop 1 line), length-drop 1 line, there line 0 117 v)
 
-  line-agrees : Agree highest rows fit
+  pub line-agrees : Agree highest rows fit
       (trial highest (rows .given) firstGap false (numberPieces line) .answer) (trial highest (rows .given) firstGap false (numberPieces line) .row)
       (rewritten true (length line) (rows .isTrue) firstGap (numberPieces line)) (scanLine highest (rows .given) line)
   unfolding scanLine storeAll any
@@ -412,3 +412,10 @@ module _ (highest : ℕ) (rows : Rows) (line : List ℕ) (fit : wordsFor highest
       (agree highest rows fit (length line) (numberPieces line) scanStart rows firstGap
       (record { so-far = refl; place = refl; stored = refl; long = refl; bits = λ u h l. sym (or-false (bitOfVariable (rows .given) u)) })
       (omega (arith, total-line)))
+
+  pub line-back : (why : Refusal) (stop : ℕ) → trial highest (rows .given) firstGap false (numberPieces line) .answer ≡ Tried.Stopped why stop
+      → (stop < length line)
+      × (rewritten false stop (trial highest (rows .given) firstGap false (numberPieces line) .row) firstGap (numberPieces line) ≡ rows .given)
+  line-back why stop e =
+      let b = back highest (rows .given) firstGap false (numberPieces line) why stop e in
+      (omega (arith, b .1, total-line), b .2)

@@ -15,7 +15,7 @@ use Rattle.rules.proofs.Bools.{not-true, not-false}
 use Rattle.rules.specs.Answers.{demand, judge}
 use Rattle.rules.specs.File.{byte}
 use Rattle.rules.specs.Text.{space, ascii}
-use Rattle.rules.specs.Lines.{agree, same, saysSatisfiable, saysUnsatisfiable, saysUnknown, isStatus, statusReach, phaseSaid, awaitsStatus, Kind, comment, status, kindVerdict, phaseAfter, Progress, progress}
+use Rattle.rules.specs.Lines.{agree, same, saysSatisfiable, saysUnsatisfiable, saysUnknown, isStatus, statusReach, phaseSaid, awaitsStatus, Kind, comment, status, kindVerdict, phaseAfter, named, Progress, progress}
 use Rattle.rules.specs.declared.Refusal.{Refusal}
 use Rattle.rules.specs.declared.Refusal.the-variants.{Grammar, OutOfPlace}
 use Rattle.rules.specs.declared.Verdict.{Verdict}
@@ -24,7 +24,7 @@ use Rattle.rules.specs.declared.Phase.{Phase}
 use Rattle.rules.specs.declared.Phase.the-variants.{ModelOpen, SaidUnsatisfiable, SaidUnknown}
 use Rattle.rules.specs.declared.Reading.{Reading}
 use Rattle.rules.specs.declared.LineAnswer.{LineAnswer}
-use Rattle.output.specs.Line.{lent, answerTo}
+use Rattle.output.specs.Line.{lent, byKind, answerTo}
 
 pub alone-short : (line : List ℕ) → length line ≡ 1 → true ≡ (eqb (length line) 1 || eqb (byte line 1) space)
 alone-short line h = rw (eq-eqb (length line) 1 h)
@@ -34,12 +34,12 @@ alone-parted line b h e = rw (ne-eqb (length line) 1 h, e)
 
 pub comment-skipped : (reading : Reading) (line : List ℕ) (r : Bool) → r ≡ (eqb (length line) 1 || eqb (byte line 1) space) → r ≡ true
     → LineAnswer.Next reading ≡ answerTo comment reading line
-unfolding answerTo kindVerdict phaseAfter judge
+unfolding answerTo byKind kindVerdict phaseAfter named judge
 comment-skipped reading line r e t = ap (λ b. progress (judge (demand b (Grammar 1) ∷ [])) reading [] (lent [] []) .answer) (sym t ∙ e)
 
 pub comment-broken : (reading : Reading) (line : List ℕ) (r : Bool) → r ≡ (eqb (length line) 1 || eqb (byte line 1) space) → r ≡ false
     → LineAnswer.Refused (Grammar 1) ≡ answerTo comment reading line
-unfolding answerTo kindVerdict phaseAfter judge
+unfolding answerTo byKind kindVerdict phaseAfter named judge
 comment-broken reading line r e t = ap (λ b. progress (judge (demand b (Grammar 1) ∷ [])) reading [] (lent [] []) .answer) (sym t ∙ e)
 
 -- ---- how many first bytes two texts share
@@ -88,7 +88,7 @@ module _ (reading : Reading) (line : List ℕ) (a : Bool) (awaits : a ≡ awaits
       progress (judge (demand a (OutOfPlace 0) ∷ demand is (Grammar n) ∷ [])) (record { highest = reading .highest; phase = phase }) [] (lent [] []) .answer
 
   given-by : gives a (isStatus line) (statusReach line) (phaseSaid line) ≡ answerTo status reading line
-  unfolding answerTo kindVerdict phaseAfter
+  unfolding answerTo byKind kindVerdict phaseAfter named
   given-by = ap (λ a. gives a (isStatus line) (statusReach line) (phaseSaid line)) awaits
 
   pub status-out : not a ≡ true → LineAnswer.Refused (OutOfPlace 0) ≡ answerTo status reading line

@@ -52,6 +52,11 @@ pub record Trial : Type 0 where
 abbrev pub trialLeaves : Tried → List ℕ → Trial
 trialLeaves answer row = record { answer = answer; row = row }
 
+-- before which gap a trial stopped
+abbrev pub stopOf : Tried → ℕ
+stopOf (Tried.Through closed) = 0
+stopOf (Tried.Stopped why gap) = gap
+
 abbrev pub onward : Verdict → (gap : ℕ) (row : List ℕ) → Trial → Trial
 onward Accepted gap row next = next
 onward (Refused why) gap row next = trialLeaves (Tried.Stopped why gap) row

@@ -5,30 +5,15 @@ use rules::Phase;
 use rules::Reading;
 use rules::Refusal;
 ghost use mathlib.Core.Path.{_≡_};
-ghost use mathlib.Core.Bool.{_||_};
 ghost use Prim.Native.Nat.{max};
-ghost use lib.Dec.{eqb};
-ghost use lib.ListN.{length};
-ghost use Rattle.rules.specs.File.{byte};
-ghost use Rattle.rules.specs.Text.{space};
 ghost use Rattle.rules.specs.Lines.{comment, status, agree, same, awaitsStatus};
 ghost use Rattle.output.specs.Line.{answerTo};
-
-// Whether a line's first byte is all of it, or a space follows.
-pub fn stands_alone(line: &[u8]) -> bool
-    ensures { λ r. ⌜ r ≡ (eqb (length (now (line .entry))) 1 || eqb (byte (now (line .entry)) 1) space) ⌝ }
-{
-    if line.len() == 1 {
-        return true;
-    }
-    words::byte_at(line, 1) == b' '
-}
 
 // A comment is skipped.
 pub fn comment_line(reading: Reading, line: &[u8]) -> LineAnswer
     ensures { λ r. ⌜ r ≡ answerTo comment reading (now (line .entry)) ⌝ }
 {
-    if stands_alone(line) {
+    if words::stands_alone(line) {
         return LineAnswer::Next(reading);
     }
     LineAnswer::Refused(Refusal::Grammar(1))

@@ -1,10 +1,12 @@
 // Words of a solver's line: what stands between spaces, read as a number.
 ghost use mathlib.Core.Path.{_≡_};
+ghost use mathlib.Core.Bool.{_||_};
 ghost use Prim.Native.Nat.{_≤_, _<_, _-_};
+ghost use lib.Dec.{eqb};
 ghost use lib.ListN.{length};
 ghost use Rattle.rules.specs.Limits.{maxDigits};
 ghost use Rattle.rules.specs.File.{byte};
-ghost use Rattle.rules.specs.Text.{digit0};
+ghost use Rattle.rules.specs.Text.{space, digit0};
 ghost use Rattle.rules.specs.Lines.{isDigit, signBytes, reach, valueFrom};
 ghost use Rattle.output.specs.Words.{EndsAt, digitRun, wordOf};
 
@@ -39,6 +41,16 @@ pub fn byte_at(bytes: &[u8], i: usize) -> u8
         return bytes[i];
     }
     0
+}
+
+// Whether a line's first byte is all of it, or a space follows.
+pub fn stands_alone(line: &[u8]) -> bool
+    ensures { λ r. ⌜ r ≡ (eqb (length (now (line .entry))) 1 || eqb (byte (now (line .entry)) 1) space) ⌝ }
+{
+    if line.len() == 1 {
+        return true;
+    }
+    byte_at(line, 1) == b' '
 }
 
 // 1 where a word begins with a minus.

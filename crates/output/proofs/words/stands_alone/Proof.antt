@@ -2,8 +2,8 @@
 -- Assumes nothing.
 use borrow.Author.Needs.{needs}
 use Rattle.output.proofs.StatusLaws.{alone-short, alone-parted}
-use Rattle.output.proofs.status.stands_alone.Statement.{statement}
-use Rattle.output.proofs.status.stands_alone.Tie as tie
+use Rattle.output.proofs.words.stands_alone.Statement.{statement}
+use Rattle.output.proofs.words.stands_alone.Tie as tie
 
 pub stands-alone-spec : {M : Type 1} → statement M
 stands-alone-spec =
