@@ -4,3 +4,4 @@ pub mod TrialLaws
 pub mod ScanLaws
 pub mod StatusLaws
 pub mod LineLaws
+pub mod FeedLaws

@@ -1,4 +1,5 @@
-// The reader of solver output: one line at a time, from the reading state and two lent rows of bits.
+// The reader of solver output: one line at a time, from the reading state and two lent rows of bits, or a whole output in pieces.
+pub mod feeding;
 mod numbers;
 mod status;
 mod words;
