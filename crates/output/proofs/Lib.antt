@@ -5,3 +5,4 @@ pub mod ScanLaws
 pub mod StatusLaws
 pub mod LineLaws
 pub mod FeedLaws
+pub mod Whole
