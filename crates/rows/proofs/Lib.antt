@@ -1,0 +1,2 @@
+-- What is proved of rows of bits.
+pub mod Bits
