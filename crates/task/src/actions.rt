@@ -1,9 +1,11 @@
 // The action body: each action is read from the part that begins at its own first byte (refusal 7).
+use crate::checks::list_in_order;
+use crate::contents::byte_at;
+use crate::limits::COUNT_BYTES;
+use crate::limits::MAX_ACTIONS;
+use crate::limits::PAIR_BYTES;
 use rules::Refusal;
 use rules::Verdict;
-use crate::contents::byte_at;
-use crate::checks::list_in_order;
-use crate::limits::{COUNT_BYTES, MAX_ACTIONS, PAIR_BYTES};
 ghost use mathlib.Core.Path.{_≡_};
 ghost use lib.ListN.{length};
 ghost use Rattle.rules.specs.Answers.{judge};
@@ -31,7 +33,12 @@ pub fn read_action(sizes: &[u8], rest: &[u8]) -> ActionRead
     if !list_in_order(sizes, rest, COUNT_BYTES, preconditions) {
         return ActionRead::AtFault;
     }
-    if !list_in_order(sizes, rest, COUNT_BYTES + PAIR_BYTES * preconditions, effects) {
+    if !list_in_order(
+        sizes,
+        rest,
+        COUNT_BYTES + PAIR_BYTES * preconditions,
+        effects,
+    ) {
         return ActionRead::AtFault;
     }
     ActionRead::Whole(bytes)

@@ -1,8 +1,15 @@
 // What later floors ask of an accepted file without judging it again. Each function here is for an accepted file only.
-use crate::contents::{body_length, body_start, byte_at};
+use crate::contents::body_length;
+use crate::contents::body_start;
+use crate::contents::byte_at;
 use crate::index::action_place;
-use crate::limits::{CONTENTS_BYTES, COUNT_BYTES, PAIR_BYTES};
-use crate::numbering::{ActionNumber, ValuePlace, place_of_action, value_place};
+use crate::limits::CONTENTS_BYTES;
+use crate::limits::COUNT_BYTES;
+use crate::limits::PAIR_BYTES;
+use crate::numbering::ActionNumber;
+use crate::numbering::ValuePlace;
+use crate::numbering::place_of_action;
+use crate::numbering::value_place;
 ghost use mathlib.Core.Path.{_≡_};
 ghost use Prim.Native.Nat.{_+_, _*_, _<_, _≤_};
 ghost use lib.ListN.{length};
@@ -23,9 +30,7 @@ fn byte_behind(file: &[u8], place: usize, i: usize) -> usize
 // Pair i of a list that stands so many bytes behind a place.
 fn pair_behind(file: &[u8], place: usize, bytes: usize, i: usize) -> ValuePlace
     requires { ⌜ place + bytes + pairBytes * i + 1 < length (now file) ⌝ }
-    ensures {
-        λ r. ⌜ (r .0 ≡ byte (now (file .entry)) (place + bytes + pairBytes * i)) × (r .1 ≡ byte (now (file .entry)) (place + bytes + pairBytes * i + 1)) ⌝
-    }
+    ensures { λ r. ⌜ (r .0 ≡ byte (now (file .entry)) (place + bytes + pairBytes * i)) × (r .1 ≡ byte (now (file .entry)) (place + bytes + pairBytes * i + 1)) ⌝ }
 {
     let at = place + bytes + PAIR_BYTES * i;
     value_place(byte_at(file, at), byte_at(file, at + 1))
@@ -66,9 +71,7 @@ pub fn goals(file: &[u8]) -> usize
 // Goal pair i.
 pub fn goal_pair(file: &[u8], i: usize) -> ValuePlace
     requires { ⌜ (fileVerdict (now file) ≡ Accepted) × (i < length (taskOf (now file) .goal)) ⌝ }
-    ensures {
-        λ r. ⌜ (r .0 ≡ pair (taskOf (now (file .entry)) .goal) i .variable) × (r .1 ≡ pair (taskOf (now (file .entry)) .goal) i .value) ⌝
-    }
+    ensures { λ r. ⌜ (r .0 ≡ pair (taskOf (now (file .entry)) .goal) i .variable) × (r .1 ≡ pair (taskOf (now (file .entry)) .goal) i .value) ⌝ }
 {
     pair_behind(file, body_start(file, 2), 0, i)
 }
@@ -99,27 +102,24 @@ pub fn effect_count(file: &[u8], index: &[usize], a: ActionNumber) -> usize
 
 // Precondition i of an action.
 pub fn precondition(file: &[u8], index: &[usize], a: ActionNumber, i: usize) -> ValuePlace
-    requires {
-        ⌜ Indexed (now file) (now index) × (a .0 < actionCount (taskOf (now file))) × (i < length (action (taskOf (now file)) (a .0) .preconditions)) ⌝
-    }
-    ensures {
-        λ r. ⌜ (r .0 ≡ pair (action (taskOf (now (file .entry))) (a .0) .preconditions) i .variable)
-        × (r .1 ≡ pair (action (taskOf (now (file .entry))) (a .0) .preconditions) i .value) ⌝
-    }
+    requires { ⌜ Indexed (now file) (now index) × (a .0 < actionCount (taskOf (now file))) × (i < length (action (taskOf (now file)) (a .0) .preconditions)) ⌝ }
+    ensures { λ r. ⌜ (r .0 ≡ pair (action (taskOf (now (file .entry))) (a .0) .preconditions) i .variable)
+        × (r .1 ≡ pair (action (taskOf (now (file .entry))) (a .0) .preconditions) i .value) ⌝ }
 {
     pair_behind(file, first_byte(file, index, a), COUNT_BYTES, i)
 }
 
 // Effect i of an action.
 pub fn effect(file: &[u8], index: &[usize], a: ActionNumber, i: usize) -> ValuePlace
-    requires {
-        ⌜ Indexed (now file) (now index) × (a .0 < actionCount (taskOf (now file))) × (i < length (action (taskOf (now file)) (a .0) .effects)) ⌝
-    }
-    ensures {
-        λ r. ⌜ (r .0 ≡ pair (action (taskOf (now (file .entry))) (a .0) .effects) i .variable)
-        × (r .1 ≡ pair (action (taskOf (now (file .entry))) (a .0) .effects) i .value) ⌝
-    }
+    requires { ⌜ Indexed (now file) (now index) × (a .0 < actionCount (taskOf (now file))) × (i < length (action (taskOf (now file)) (a .0) .effects)) ⌝ }
+    ensures { λ r. ⌜ (r .0 ≡ pair (action (taskOf (now (file .entry))) (a .0) .effects) i .variable)
+        × (r .1 ≡ pair (action (taskOf (now (file .entry))) (a .0) .effects) i .value) ⌝ }
 {
     let place = first_byte(file, index, a);
-    pair_behind(file, place, COUNT_BYTES + PAIR_BYTES * byte_behind(file, place, 0), i)
+    pair_behind(
+        file,
+        place,
+        COUNT_BYTES + PAIR_BYTES * byte_behind(file, place, 0),
+        i,
+    )
 }

@@ -1,6 +1,10 @@
 // What is judged of domain sizes, start values and pairs: refusals 3 to 6.
 use crate::contents::byte_at;
-use crate::limits::{MAX_DOMAIN, MAX_GOALS, MAX_PAIRS, MAX_VARIABLES, PAIR_BYTES};
+use crate::limits::MAX_DOMAIN;
+use crate::limits::MAX_GOALS;
+use crate::limits::MAX_PAIRS;
+use crate::limits::MAX_VARIABLES;
+use crate::limits::PAIR_BYTES;
 ghost use mathlib.Core.Path.{_≡_};
 ghost use mathlib.Core.Bool.{_&&_};
 ghost use mathlib.Core.List.{[]};
@@ -15,9 +19,7 @@ ghost use Rattle.task.specs.Bodies.{sized, taskIn};
 
 // The lengths of three bodies fit: n from 1 to 96, as many start values, whole goal pairs and at most 96 of them.
 pub fn lengths_fit(n: usize, starts: usize, goals: usize) -> bool
-    ensures {
-        λ r. ⌜ r ≡ (leb 1 n && leb n maxVariables && eqb starts n && eqb (goals % pairBytes) 0 && leb (goals / pairBytes) maxGoals) ⌝
-    }
+    ensures { λ r. ⌜ r ≡ (leb 1 n && leb n maxVariables && eqb starts n && eqb (goals % pairBytes) 0 && leb (goals / pairBytes) maxGoals) ⌝ }
 {
     if n < 1 {
         return false;

@@ -1,10 +1,16 @@
 // The whole verdict on a file: refusals 1 to 7.
+use crate::actions::actions_verdict;
+use crate::checks::first_pair_at_fault;
+use crate::checks::first_size_at_fault;
+use crate::checks::first_start_at_fault;
+use crate::checks::lengths_fit;
+use crate::checks::sum_of_sizes;
+use crate::contents::contents_verdict;
+use crate::contents::row_body;
+use crate::limits::MAX_VALUES;
+use crate::limits::PAIR_BYTES;
 use rules::Refusal;
 use rules::Verdict;
-use crate::actions::actions_verdict;
-use crate::checks::{first_pair_at_fault, first_size_at_fault, first_start_at_fault, lengths_fit, sum_of_sizes};
-use crate::contents::{contents_verdict, row_body};
-use crate::limits::{MAX_VALUES, PAIR_BYTES};
 ghost use mathlib.Core.Path.{_≡_};
 ghost use Rattle.rules.specs.Answers.{judge};
 ghost use Rattle.rules.specs.File.{fileVerdict};
@@ -12,9 +18,7 @@ ghost use Rattle.task.specs.Bodies.{bodiesRules};
 
 // Refusals 3 to 7, of four bodies.
 pub fn bodies_verdict(sizes: &[u8], start: &[u8], goal: &[u8], actions: &[u8]) -> Verdict
-    ensures {
-        λ r. ⌜ r ≡ judge (bodiesRules (now (sizes .entry)) (now (start .entry)) (now (goal .entry)) (now (actions .entry))) ⌝
-    }
+    ensures { λ r. ⌜ r ≡ judge (bodiesRules (now (sizes .entry)) (now (start .entry)) (now (goal .entry)) (now (actions .entry))) ⌝ }
 {
     let n = sizes.len();
     if !lengths_fit(n, start.len(), goal.len()) {
@@ -47,5 +51,10 @@ pub fn file_verdict(file: &[u8]) -> Verdict
     let Verdict::Accepted = contents else {
         return contents;
     };
-    bodies_verdict(row_body(file, 0), row_body(file, 1), row_body(file, 2), row_body(file, 3))
+    bodies_verdict(
+        row_body(file, 0),
+        row_body(file, 1),
+        row_body(file, 2),
+        row_body(file, 3),
+    )
 }

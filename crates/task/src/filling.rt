@@ -1,7 +1,15 @@
 // Filling the index of an accepted file, once a call, into lent memory.
-use crate::contents::{body_start, byte_at, row_body};
-use crate::index::{ACTIONS_AT, ACTION_WIDTH, COUNT_AT, VARIABLE_WIDTH};
-use crate::limits::{COUNT_BYTES, MAX_ACTIONS, MAX_VARIABLES, PAIR_BYTES};
+use crate::contents::body_start;
+use crate::contents::byte_at;
+use crate::contents::row_body;
+use crate::index::ACTION_WIDTH;
+use crate::index::ACTIONS_AT;
+use crate::index::COUNT_AT;
+use crate::index::VARIABLE_WIDTH;
+use crate::limits::COUNT_BYTES;
+use crate::limits::MAX_ACTIONS;
+use crate::limits::MAX_VARIABLES;
+use crate::limits::PAIR_BYTES;
 ghost use mathlib.Core.Path.{_≡_};
 ghost use mathlib.Core.List.{[], _∷_, _++_};
 ghost use Prim.Native.Nat.{_+_, _*_, _<_, _≤_};
@@ -72,12 +80,11 @@ fn fill_variables(sizes: &[u8], out: &mut [usize])
 // The place behind the action that begins at a place.
 fn next_place(actions: &[u8], at: usize) -> usize
     requires { ⌜ at ≤ length (now actions) ⌝ }
-    ensures {
-        λ r. ⌜ (r ≤ length (now (actions .entry)))
-        × (drop r (now (actions .entry)) ≡ drop (actionBytes (drop at (now (actions .entry)))) (drop at (now (actions .entry)))) ⌝
-    }
+    ensures { λ r. ⌜ (r ≤ length (now (actions .entry)))
+        × (drop r (now (actions .entry)) ≡ drop (actionBytes (drop at (now (actions .entry)))) (drop at (now (actions .entry)))) ⌝ }
 {
-    let bytes = COUNT_BYTES + PAIR_BYTES * (byte_if_any(actions, at) + byte_if_any(actions, at + 1));
+    let bytes = COUNT_BYTES
+        + PAIR_BYTES * (byte_if_any(actions, at) + byte_if_any(actions, at + 1));
     if actions.len() - at < bytes {
         return actions.len();
     }
@@ -124,11 +131,9 @@ fn put_variables(sizes: &[u8], index: &mut [usize])
 
 fn put_actions(start: usize, actions: &[u8], index: &mut [usize])
     requires { ⌜ (start + length (now actions) ≤ maxFile) × (length (now index) ≡ indexLength) ⌝ }
-    ensures {
-        λ _. ⌜ now (index .exit)
+    ensures { λ _. ⌜ now (index .exit)
         ≡ take actionsAt (now (index .entry))
-        ++ (forEach actionRows (actionRow start (now (actions .entry))) ++ drop (actionWidth * actionRows) (drop actionsAt (now (index .entry)))) ⌝
-    }
+        ++ (forEach actionRows (actionRow start (now (actions .entry))) ++ drop (actionWidth * actionRows) (drop actionsAt (now (index .entry)))) ⌝ }
 {
     fill_actions(start, actions, &mut index[ACTIONS_AT..COUNT_AT]);
 }

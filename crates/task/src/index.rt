@@ -1,5 +1,6 @@
 // The index of an accepted file: where its numbers stand, and what they say. Each function here is for an accepted file with its index only.
-use crate::limits::{MAX_ACTIONS, MAX_VARIABLES};
+use crate::limits::MAX_ACTIONS;
+use crate::limits::MAX_VARIABLES;
 ghost use mathlib.Core.Path.{_≡_};
 ghost use Prim.Native.Nat.{_≤_};
 ghost use Rattle.rules.specs.Limits.{maxVariables, maxActions};
@@ -10,9 +11,13 @@ ghost use Rattle.task.specs.Index.{Indexed, actionPlace, valuePairsBefor
 
 // How many numbers a row has, where the rows of the actions begin, where their count stands, and the whole length.
 pub const VARIABLE_WIDTH: usize = 2;
+
 pub const ACTION_WIDTH: usize = 3;
+
 pub const ACTIONS_AT: usize = VARIABLE_WIDTH * (MAX_VARIABLES + 1);
+
 pub const COUNT_AT: usize = ACTIONS_AT + ACTION_WIDTH * (MAX_ACTIONS + 1);
+
 pub const INDEX_LENGTH: usize = COUNT_AT + 1;
 
 // off(x), also for x = n.

@@ -1,6 +1,8 @@
 // The numbering. State variables with their values, actions and formula variables are three separate countings: a type each, with private
 // fields, joined only by the functions here.
-use crate::index::{offset, step_width, values};
+use crate::index::offset;
+use crate::index::step_width;
+use crate::index::values;
 ghost use mathlib.Core.Path.{_≡_};
 ghost use Prim.Native.Nat.{_+_, _*_, _<_, _≤_};
 ghost use Rattle.rules.specs.Limits.{maxValues, maxActions, maxHorizon};
@@ -65,20 +67,31 @@ fn numbered(step: usize, width: usize, place: usize) -> FormulaNumber
 
 // Value v of variable x at a step, from 0; at every horizon the same.
 pub fn value_number(file: &[u8], index: &[usize], step: usize, place: ValuePlace) -> FormulaNumber
-    requires {
-        ⌜ Indexed (now file) (now index) × (step ≤ maxHorizon) × (place .0 < n (taskOf (now file))) × (place .1 < d (taskOf (now file)) (place .0)) ⌝
-    }
+    requires { ⌜ Indexed (now file) (now index) × (step ≤ maxHorizon) × (place .0 < n (taskOf (now file))) × (place .1 < d (taskOf (now file)) (place .0)) ⌝ }
     ensures { λ r. ⌜ r .0 ≡ valueNumber (atAnyHorizon (now (file .entry))) step (place .0) (place .1) ⌝ }
 {
-    numbered(step, step_width(file, index), offset(file, index, place.0) + place.1)
+    numbered(
+        step,
+        step_width(file, index),
+        offset(file, index, place.0) + place.1,
+    )
 }
 
 // Action a at a step, from 0; at every horizon the same.
-pub fn action_number(file: &[u8], index: &[usize], step: usize, action: ActionNumber) -> FormulaNumber
+pub fn action_number(
+    file: &[u8],
+    index: &[usize],
+    step: usize,
+    action: ActionNumber,
+) -> FormulaNumber
     requires { ⌜ Indexed (now file) (now index) × (step ≤ maxHorizon) × (action .0 < actionCount (taskOf (now file))) ⌝ }
     ensures { λ r. ⌜ r .0 ≡ actionNumber (atAnyHorizon (now (file .entry))) step (action .0) ⌝ }
 {
-    numbered(step, step_width(file, index), values(file, index) + action.0)
+    numbered(
+        step,
+        step_width(file, index),
+        values(file, index) + action.0,
+    )
 }
 
 // A number that was read: a formula number if it is one of 1 to N.
