@@ -33,3 +33,4 @@ pub mod Figures
 pub mod Demands
 pub mod Proved
 pub mod InRows
+pub mod AtCalls
