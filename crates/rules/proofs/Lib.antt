@@ -29,6 +29,7 @@ pub mod Plans
 pub mod Endings
 pub mod Listed
 pub mod Table
+pub mod Runs
 pub mod Figures
 pub mod Demands
 pub mod Proved
