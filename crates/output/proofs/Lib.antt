@@ -7,3 +7,4 @@ pub mod LineLaws
 pub mod FeedLaws
 pub mod Whole
 pub mod Said
+pub mod Told

@@ -77,7 +77,7 @@ module _ (file : List ℕ) (fine : fileVerdict file ≡ Accepted) (k : ℕ) (sma
   abbrev T : Task
   T = taskOf file
 
-  within : judge (problemRules file k) ≡ Accepted
+  pub within : judge (problemRules file k) ≡ Accepted
   unfolding problemRules fileVerdict
   within = judge-append (fileRules file) _ ∙ inTurn-both _ _ fine (judge-cons _ _ (le-leb _ _ small) judge-nil)
 
