@@ -10,6 +10,8 @@ use Rattle.rules.specs.declared.LineAnswer.{LineAnswer}
 use Rattle.output.specs.Line.{leaves}
 use Rattle.output.specs.Feeding.{Fed, feedLeaves}
 use Rattle.output.specs.declared.feeding.Feed.{Feed}
+use Rattle.output.proofs.start.Kinds as start-kinds
+use Rattle.output.proofs.start.Reads as start
 use Rattle.output.proofs.read_line.Kinds as read-line-kinds
 use Rattle.output.proofs.read_line.Reads as read-line
 use Rattle.output.proofs.feeding.begin.Kinds as begin-kinds
@@ -18,6 +20,12 @@ use Rattle.output.proofs.feeding.take_bytes.Kinds as take-bytes-kinds
 use Rattle.output.proofs.feeding.take_bytes.Reads as take-bytes
 use Rattle.output.proofs.feeding.finish.Kinds as finish-kinds
 use Rattle.output.proofs.feeding.finish.Reads as finish
+
+pub start-decided : (κs : Lfts 2) (a : Dens κs start-kinds.ps) (r s : LineAnswer) (x y : AtExit (endedOf 2 start-kinds.ps start-kinds.r) κs)
+    → start.Post κs a r x → start.Post κs a s y → (r ≡ s) × (now (x .1 .0) ≡ now (y .1 .0)) × (now (x .1 .1 .0) ≡ now (y .1 .1 .0))
+start-decided κs a r s x y p q =
+    let e : leaves r (now (x .1 .0)) (now (x .1 .1 .0)) ≡ leaves s (now (y .1 .0)) (now (y .1 .1 .0)) = p ∙ sym q in
+    (ap (λ l. l .answer) e, ap (λ l. l .rows .given) e, ap (λ l. l .rows .isTrue) e)
 
 pub read-line-decided : (κs : Lfts 3) (a : Dens κs read-line-kinds.ps) (r s : LineAnswer) (x y : AtExit (endedOf 3 read-line-kinds.ps read-line-kinds.r) κs)
     → read-line.Post κs a r x → read-line.Post κs a s y → (r ≡ s) × (now (x .1 .0) ≡ now (y .1 .0)) × (now (x .1 .1 .0) ≡ now (y .1 .1 .0))
