@@ -6,5 +6,6 @@ pub mod StatusLaws
 pub mod LineLaws
 pub mod FeedLaws
 pub mod Whole
+pub mod Decided
 pub mod Said
 pub mod Told

@@ -9,24 +9,24 @@ use Prim.Native.Nat.{ℕ, zero, suc, _+_, _-_, _≤_, _<_}
 use native.Mathlib.Omega.{arith}
 use borrow.Author.Tests.{eq-eqb, ne-eqb, eqb-true, eqb-false, le-leb, lt-leb}
 use lib.Dec.{eqb, leb}
-use lib.ListN.{length}
+use lib.ListN.{length, replicate}
 use Rattle.rules.specs.Limits.{maxLine}
 use Rattle.rules.specs.Answers.{demand, judge, inTurn}
 use Rattle.rules.specs.File.{byte}
 use Rattle.rules.specs.Text.{space}
-use Rattle.rules.specs.Rows.{wordsFor, Rows, storeAll}
+use Rattle.rules.specs.Rows.{wordsFor, overRow, Rows, storeAll}
 use Rattle.rules.specs.Lines.{Scan, scanLine, awaitsNumbers, Kind, comment, status, numbers, neither, kindOf, kindVerdict, lineVerdict, phaseSaid, phaseAfter, named, Progress, rowsFit, progress, readLine}
 use Rattle.rules.specs.declared.Refusal.{Refusal}
 use Rattle.rules.specs.declared.Refusal.the-variants.{Room, Grammar, OutOfPlace}
 use Rattle.rules.specs.declared.Verdict.{Verdict}
 use Rattle.rules.specs.declared.Verdict.the-variants.{Accepted, Refused}
 use Rattle.rules.specs.declared.Phase.{Phase}
-use Rattle.rules.specs.declared.Phase.the-variants.{ModelOpen, ModelClosed}
+use Rattle.rules.specs.declared.Phase.the-variants.{NoStatus, ModelOpen, ModelClosed}
 use Rattle.rules.specs.declared.Reading.{Reading}
 use Rattle.rules.specs.declared.LineAnswer.{LineAnswer}
 use Rattle.rules.proofs.Bools.{either, clash, not-true, not-false}
 use Rattle.output.specs.Trial.{Trial, trialLeaves, stopOf, trial, firstGap, numberPieces, rewritten}
-use Rattle.output.specs.Line.{lent, leaves, byKind, answerTo}
+use Rattle.output.specs.Line.{lent, leaves, started, byKind, answerTo}
 use Rattle.output.specs.declared.numbers.Tried.{Tried}
 use Rattle.output.proofs.ScanLaws.{Agree, line-agrees, line-back}
 
@@ -191,3 +191,23 @@ module _ (reading : Reading) (g t line : List ℕ) where
           line-neither c s v =
               let n : leaves (LineAnswer.Refused (Grammar 0)) g t ≡ byKind neither reading (lent g t) line = refl in
               n ∙ ap (λ k. byKind k reading (lent g t) line) (sym (kind-other c s v)) ∙ line-is
+
+-- ---- the start
+
+module _ (highest : ℕ) (g t : List ℕ) (words : ℕ) (need : words ≡ wordsFor highest) where
+  pub start-given-short : length g < words → leaves (LineAnswer.Refused Room) g t ≡ started highest (lent g t)
+  unfolding started rowsFit
+  start-given-short h = rw (lt-leb (wordsFor highest) (length g) (omega (arith, need)))
+
+  pub start-true-short : words ≤ length g → length t < words → leaves (LineAnswer.Refused Room) g t ≡ started highest (lent g t)
+  unfolding started rowsFit
+  start-true-short k h = rw (le-leb (wordsFor highest) (length g) (omega (arith, need)), lt-leb (wordsFor highest) (length t) (omega (arith, need)))
+
+  pub start-clears : (g′ t′ : List ℕ) → words ≤ length g → words ≤ length t → g′ ≡ overRow (replicate words 0) g → t′ ≡ overRow (replicate words 0) t
+      → leaves (LineAnswer.Next (record { highest = highest; phase = NoStatus })) g′ t′ ≡ started highest (lent g t)
+  unfolding started rowsFit
+  start-clears g′ t′ k l e f =
+      rw (le-leb (wordsFor highest) (length g) (omega (arith, need)), le-leb (wordsFor highest) (length t) (omega (arith, need)))
+      (ap₂ (leaves (LineAnswer.Next (record { highest = highest; phase = NoStatus })))
+      (e ∙ ap (λ n. overRow (replicate n 0) g) need)
+      (f ∙ ap (λ n. overRow (replicate n 0) t) need))

@@ -5,13 +5,33 @@ mod status;
 mod words;
 
 use rules::LineAnswer;
+use rules::Phase;
 use rules::Reading;
 use rules::Refusal;
 ghost use mathlib.Core.Path.{_≡_};
 ghost use Rattle.rules.specs.Lines.{readLine};
-ghost use Rattle.output.specs.Line.{lent, leaves};
+ghost use Rattle.output.specs.Line.{lent, leaves, started};
 
 const MAX_LINE: usize = 4096;
+
+// A reading of up to `highest` variables starts: the words needed are set to 0 in both rows.
+pub fn start(highest: usize, given: &mut [u64], truth: &mut [u64]) -> LineAnswer
+    ensures { λ r. ⌜ leaves r (now (given .exit)) (now (truth .exit)) ≡ started highest (lent (now (given .entry)) (now (truth .entry))) ⌝ }
+{
+    let words = rows::words_for(highest);
+    if given.len() < words {
+        return LineAnswer::Refused(Refusal::Room);
+    }
+    if truth.len() < words {
+        return LineAnswer::Refused(Refusal::Room);
+    }
+    rows::clear(given, words);
+    rows::clear(truth, words);
+    LineAnswer::Next(Reading {
+        highest,
+        phase: Phase::NoStatus,
+    })
+}
 
 // One line without its LF: the next reading state, or a refusal, which leaves both rows as found.
 pub fn read_line(reading: Reading, given: &mut [u64], truth: &mut [u64], line: &[u8]) -> LineAnswer

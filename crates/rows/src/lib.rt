@@ -1,8 +1,9 @@
 // Rows of bits in lent words: 64 to a word from the lowest bit up, variable 1 first.
 ghost use mathlib.Core.Path.{_≡_};
-ghost use Prim.Native.Nat.{_<_, _≤_};
-ghost use lib.ListN.{length, replicate};
+ghost use Prim.Native.Nat.{_+_, _-_, _/_, _%_, _^_, _<_, _≤_, min};
+ghost use lib.ListN.{length, getD, replicate};
 ghost use Rattle.rules.specs.Rows.{wordBits, wordsFor, withBit, bitOfVariable, withVariable, overRow};
+ghost use Rattle.rows.specs.Stretch.{setBelow, LowestSet, countSet, firstSet};
 
 const WORD_BITS: usize = 64;
 
@@ -60,4 +61,75 @@ pub fn clear(row: &mut [u64], words: usize)
         row[i] = 0;
         i += 1;
     }
+}
+
+// The bits of a row from a place on, as far as its word goes; behind the row they are 0.
+fn bits_from(row: &[u64], place: usize) -> u64
+    ensures { λ r. ⌜ r ≡ getD (now (row .entry)) (place / wordBits) 0 / 2 ^ (place % wordBits) ⌝ }
+{
+    let at = place / WORD_BITS;
+    if row.len() <= at {
+        return 0;
+    }
+    row[at] >> (place % WORD_BITS)
+}
+
+// How many of the `left` bits from a place on stand in its word.
+fn in_word(place: usize, left: usize) -> usize
+    ensures { λ r. ⌜ r ≡ min (wordBits - place % wordBits) left ⌝ }
+{
+    let rest = WORD_BITS - place % WORD_BITS;
+    if left < rest {
+        return left;
+    }
+    rest
+}
+
+// How many of the lowest `size` bits of a word are set: the ones of the masked word.
+fn ones_below(bits: u64, size: usize) -> usize
+    requires { ⌜ (0 < size) × (size ≤ wordBits) ⌝ }
+    ensures { λ r. ⌜ (r ≡ setBelow bits size) × (r ≤ size) ⌝ }
+{
+    u64::count_ones(bits & (u64::MAX >> (WORD_BITS - size))) as usize
+}
+
+// Where the lowest set bit of a word stands: the zeros below it.
+fn lowest_set(bits: u64) -> usize
+    ensures { λ r. ⌜ LowestSet bits r ⌝ }
+{
+    u64::trailing_zeros(bits) as usize
+}
+
+// How many of the `many` variables from `from` on are set.
+pub fn count_set(row: &[u64], from: usize, many: usize) -> usize
+    requires { ⌜ (0 < from) × (from + many < 2 ^ 64) ⌝ }
+    ensures { λ r. ⌜ r ≡ countSet (now (row .entry)) from many ⌝ }
+{
+    let mut count = 0;
+    let mut done = 0;
+    while done < many {
+        let place = from - 1 + done;
+        let size = in_word(place, many - done);
+        count += ones_below(bits_from(row, place), size);
+        done += size;
+    }
+    count
+}
+
+// Which of the `many` variables from `from` on is the first that is set, counted from 0; `many` where none is.
+pub fn first_set(row: &[u64], from: usize, many: usize) -> usize
+    requires { ⌜ (0 < from) × (from + many < 2 ^ 64) ⌝ }
+    ensures { λ r. ⌜ r ≡ firstSet (now (row .entry)) from many ⌝ }
+{
+    let mut done = 0;
+    while done < many {
+        let place = from - 1 + done;
+        let size = in_word(place, many - done);
+        let lowest = lowest_set(bits_from(row, place));
+        if lowest < size {
+            return done + lowest;
+        }
+        done += size;
+    }
+    many
 }
