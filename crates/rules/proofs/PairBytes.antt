@@ -1,14 +1,14 @@
 -- Pairs read from bytes: pair i stands so many bytes further on, and whether it is at fault is told by it and the one before.
 -- Assumes nothing.
-use mathlib.Core.Path.{_≡_, refl, sym, ap, _∙_}
-use mathlib.Core.Bool.{Bool, true, false, not, _&&_}
-use mathlib.Core.List.{List, []}
+use mathlib.Core.Path.{_≡_, refl, sym, _∙_}
+use mathlib.Core.Bool.{Bool, true, not, _&&_}
+use mathlib.Core.List.{List}
 use Prim.Native.Nat.{ℕ, zero, suc, _+_, _*_, _<_}
 use native.Mathlib.Omega.{arith}
 use lib.Dec.{ltb}
 use lib.ListN.{length}
 use Rattle.rules.specs.Limits.{pairBytes}
-use Rattle.rules.specs.Task.{Pair, Task, n, d, pair, inside, rises, pairAtFault}
+use Rattle.rules.specs.Task.{Task, n, d, pair, rises, pairAtFault}
 use Rattle.rules.specs.File.{byte, pairsAt}
 use Rattle.rules.proofs.Counting.{length-table, getD-table}
 

@@ -2,31 +2,27 @@
 -- Assumes nothing.
 use mathlib.Core.Path.{_≡_, refl, sym, ap, _∙_}
 use mathlib.Core.Logic.{⊎-elim}
-use mathlib.Core.List.{List, [], _∷_, _++_, map}
-use Prim.Native.Nat.{ℕ, zero, suc, _+_, _-_, _*_, _/_, _≤_, _<_}
+use mathlib.Core.List.{List, [], _∷_, _++_}
+use Prim.Native.Nat.{ℕ, zero, suc, _+_, _*_, _≤_, _<_}
 use native.Mathlib.Omega.{arith}
 use native.Mathlib.Nat.{mul-le-mul}
 use borrow.Author.Tests.{le-leb, lt-leb}
 use mir.Syntax.{w64}
 use mir.Val.{Fits}
-use lib.ListN.{length, getD, take, drop, length-append, length-drop, length-map, List·getD-append, List·getD-eq-default}
-use lib.Seq.{getD-append-add, getD-take, getD-drop, take-all, drop-drop}
+use lib.ListN.{length, getD, length-append, List·getD-append, List·getD-eq-default}
+use lib.Seq.{getD-append-add}
 use Rattle.rules.specs.Counting.{sumTo, forEach}
-use Rattle.rules.specs.Limits.{maxVariables, maxValues, maxActions, maxHorizon, maxFile, contentsBytes, contentsRows, pairBytes, countBytes}
-use Rattle.rules.specs.Task.{Task, n, d, off, S, A, startValue, pair, action}
-use Rattle.rules.specs.File.{byte, bodyStart, bodyLength, body, pairsAt, actionBytes, actionIn, rests, taskOf, fileVerdict}
+use Rattle.rules.specs.Limits.{maxVariables, maxValues, maxActions, maxHorizon}
+use Rattle.rules.specs.Task.{Task, n, d, off, S, A, action}
+use Rattle.rules.specs.File.{bodyStart, body, taskOf}
 use Rattle.rules.specs.Numbering.{stride, valueNumber, actionNumber}
 use Rattle.rules.specs.Calls.{problemOf}
-use Rattle.rules.specs.declared.Verdict.the-variants.{Accepted}
 use Rattle.rules.proofs.Bools.{below-or}
 use Rattle.rules.proofs.Counting.{sumTo-ext, length-forEach, getD-forEach}
 use Rattle.rules.proofs.Numbering.{value-place}
 use Rattle.rules.proofs.Valid.{WellFormed}
-use Rattle.rules.proofs.Contents.{Contents, body-within, length-body}
-use Rattle.rules.proofs.Files.{accepted-file, accepted-well-formed}
-use Rattle.rules.proofs.Rests.{action-read, rest-place}
-use Rattle.rules.proofs.PairBytes.{length-pairsAt, pair-at}
-use Rattle.task.specs.Index.{restAt, variableRow, actionRow, variableRows, actionRows, variableWidth, actionWidth, actionsAt, countAt, indexLength, indexOf, actionPlace, valuePairsBefore, preconditionsBefore, effectsBefore, Indexed}
+use Rattle.rules.proofs.Files.{accepted-well-formed}
+use Rattle.task.specs.Index.{variableRow, actionRow, variableRows, actionRows, variableWidth, actionWidth, actionsAt, countAt, indexLength, indexOf, actionPlace, valuePairsBefore, preconditionsBefore, effectsBefore, Indexed}
 use Rattle.task.specs.declared.numbering.NumberRead.the-variants.{Number, Outside}
 use Rattle.task.specs.Numbers.{atAnyHorizon, numberRead}
 use Rattle.task.proofs.Bytes.{precondition-count, effect-count}

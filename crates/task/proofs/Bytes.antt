@@ -1,21 +1,19 @@
 -- Where each part of an accepted file's task stands among the file's bytes.
 -- Assumes nothing.
-use mathlib.Core.Path.{_≡_, refl, sym, ap, _∙_}
-use mathlib.Core.Bool.{true}
-use mathlib.Core.List.{List, []}
-use Prim.Native.Nat.{ℕ, suc, _+_, _-_, _*_, _/_, _≤_, _<_}
+use mathlib.Core.Path.{_≡_, sym, ap, _∙_}
+use mathlib.Core.List.{List}
+use Prim.Native.Nat.{ℕ, _+_, _-_, _*_, _/_, _≤_, _<_}
 use native.Mathlib.Omega.{arith}
 use borrow.Author.Tests.{leb-true}
-use lib.Dec.{leb}
-use lib.ListN.{length, getD, take, drop, length-drop, length-map}
+use lib.ListN.{length, drop, length-drop}
 use lib.Seq.{getD-take, getD-drop}
 use Rattle.rules.specs.Limits.{maxFile, contentsBytes, contentsRows, pairBytes, countBytes}
 use Rattle.rules.specs.Task.{Task, n, d, A, startValue, pair, action}
 use Rattle.rules.specs.File.{byte, bodyStart, bodyLength, body, pairsAt, actionBytes, actionIn, rests, isWhole, contentsVerdict, taskOf, fileVerdict}
 use Rattle.rules.specs.declared.Verdict.the-variants.{Accepted}
-use Rattle.rules.proofs.Valid.{WellFormed, Judged}
+use Rattle.rules.proofs.Valid.{WellFormed}
 use Rattle.rules.proofs.Contents.{Contents, contents-accepted, length-body, body-within}
-use Rattle.rules.proofs.Files.{FileJudged, accepted-file}
+use Rattle.rules.proofs.Files.{accepted-file}
 use Rattle.rules.proofs.Rests.{action-read, rest-place}
 use Rattle.rules.proofs.PairBytes.{length-pairsAt, pair-at}
 use Rattle.task.specs.Index.{restAt, actionPlace}

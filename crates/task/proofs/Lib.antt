@@ -1,8 +1,6 @@
--- Laws that close the functions' proofs, one for each way out, over plain lists and numbers.
-pub mod ReadContents
-pub mod ReadChecks
-pub mod ReadActions
-pub mod ReadFile
+-- Laws that close the functions' proofs: what stands where in an accepted file and in its index.
 pub mod Rows
 pub mod Bytes
 pub mod Asking
+pub mod StartValues
+pub mod OneAnswer

@@ -2,7 +2,7 @@
 -- Assumes nothing.
 use mathlib.Core.Path.{_≡_, refl, sym, ap, _∙_}
 use mathlib.Core.List.{List, map, [], _∷_, _++_, append-nil, append-assoc}
-use Prim.Native.Nat.{ℕ, zero, suc, _+_, _-_, _*_, _/_, _≤_, _<_}
+use Prim.Native.Nat.{ℕ, suc, _+_, _-_, _*_, _/_, _≤_, _<_}
 use native.Mathlib.Omega.{arith}
 use native.Mathlib.Numerals.{add-one}
 use native.Mathlib.Nat.{mul-comm, mul-le-mul}
@@ -30,7 +30,7 @@ two-stored l at u v = rw add-one
 pub three-stored : (l : List ℕ) (at u v w : ℕ) → set (set (set l at u) (at + 1) v) (at + 2) w ≡ sets l at (u ∷ v ∷ w ∷ [])
 three-stored l at u v w = let two : at + 2 ≡ suc (suc at) = omega arith in rw (add-one, two)
 
-over-more : (table p q : List ℕ) → length p + length q ≤ length table → sets (over table p) (length p) q ≡ over table (p ++ q)
+pub over-more : (table p q : List ℕ) → length p + length q ≤ length table → sets (over table p) (length p) q ≡ over table (p ++ q)
 over-more table p q h =
     let behind : List ℕ = drop (length p) table in
     sets-eq q (over table p) (length p) (omega (arith, length-append p behind, length-drop (length p) table))

@@ -1,5 +1,3 @@
--- What the reader's contracts cite beside the rules.
-pub mod Stretches
-pub mod Bodies
+-- What the contracts cite beside the rules: the index of an accepted file, and formula numbers.
 pub mod Index
 pub mod Numbers

@@ -1,15 +1,15 @@
 // What later floors ask of an accepted file without judging it again. Each function here is for an accepted file only.
-use crate::contents::body_length;
-use crate::contents::body_start;
-use crate::contents::byte_at;
 use crate::index::action_place;
-use crate::limits::CONTENTS_BYTES;
-use crate::limits::COUNT_BYTES;
-use crate::limits::PAIR_BYTES;
 use crate::numbering::ActionNumber;
 use crate::numbering::ValuePlace;
 use crate::numbering::place_of_action;
 use crate::numbering::value_place;
+use reader::contents::body_length;
+use reader::contents::body_start;
+use reader::contents::byte_at;
+use reader::limits::CONTENTS_BYTES;
+use reader::limits::COUNT_BYTES;
+use reader::limits::PAIR_BYTES;
 ghost use mathlib.Core.Path.{_≡_};
 ghost use Prim.Native.Nat.{_+_, _*_, _<_, _≤_};
 ghost use lib.ListN.{length};

@@ -1,15 +1,15 @@
 // Filling the index of an accepted file, once a call, into lent memory.
-use crate::contents::body_start;
-use crate::contents::byte_at;
-use crate::contents::row_body;
 use crate::index::ACTION_WIDTH;
 use crate::index::ACTIONS_AT;
 use crate::index::COUNT_AT;
 use crate::index::VARIABLE_WIDTH;
-use crate::limits::COUNT_BYTES;
-use crate::limits::MAX_ACTIONS;
-use crate::limits::MAX_VARIABLES;
-use crate::limits::PAIR_BYTES;
+use reader::contents::body_start;
+use reader::contents::byte_at;
+use reader::contents::row_body;
+use reader::limits::COUNT_BYTES;
+use reader::limits::MAX_ACTIONS;
+use reader::limits::MAX_VARIABLES;
+use reader::limits::PAIR_BYTES;
 ghost use mathlib.Core.Path.{_≡_};
 ghost use mathlib.Core.List.{[], _∷_, _++_};
 ghost use Prim.Native.Nat.{_+_, _*_, _<_, _≤_};

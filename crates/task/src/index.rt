@@ -1,6 +1,6 @@
 // The index of an accepted file: where its numbers stand, and what they say. Each function here is for an accepted file with its index only.
-use crate::limits::MAX_ACTIONS;
-use crate::limits::MAX_VARIABLES;
+use reader::limits::MAX_ACTIONS;
+use reader::limits::MAX_VARIABLES;
 ghost use mathlib.Core.Path.{_≡_};
 ghost use Prim.Native.Nat.{_≤_};
 ghost use Rattle.rules.specs.Limits.{maxVariables, maxActions};

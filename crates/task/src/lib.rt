@@ -1,10 +1,11 @@
-// Task files: the reader (refusals 1 to 7), bodies by number, what is asked of an accepted file, the numbering, and the state record.
-pub mod actions;
+// What is asked of an accepted file without judging it again: its index, sizes, pairs and places, the numbering, and the state record. The
+// reader's own modules can be named through this crate.
+pub use reader::contents;
+pub use reader::file;
+pub use reader::limits;
+
 pub mod asked;
-pub mod checks;
-pub mod contents;
-pub mod file;
 pub mod filling;
 pub mod index;
-pub mod limits;
 pub mod numbering;
+pub mod state;

@@ -1,21 +1,14 @@
+-- `precondition_count` meets its contract.
+-- Assumes nothing.
 use borrow.Author.Needs.{needs}
-use native.Mathlib.Omega.{arith}
 use Rattle.task.proofs.Bytes.{first-there, preconditions-asked}
 use Rattle.task.proofs.asked.precondition_count.Statement.{statement}
 use Rattle.task.proofs.asked.precondition_count.Tie as tie
-use Rattle.task.proofs.asked.precondition_count.Reads as reads
-use Rattle.task.proofs.asked.precondition_count.Lts as lts
-use Rattle.task.proofs.asked.byte_behind.Reads as byte-behind-reads
-use Rattle.task.proofs.asked.first_byte.Reads as first-byte-reads
-
-first-byte-requires : tie.Need-first-byte-requires
-first-byte-requires c κs = search needs
-
-byte-behind-requires : tie.Need-byte-behind-requires
-byte-behind-requires c κs = search (needs, first-there)
-
-returns : tie.Need-returns
-returns c = search (needs, preconditions-asked)
 
 pub precondition-count-spec : {M : Type 1} → statement M
-precondition-count-spec = tie.close (tie.spec first-byte-requires byte-behind-requires returns)
+precondition-count-spec =
+    tie.close
+    (tie.spec
+    (λ c κs. search needs)
+    (λ c κs. search (needs, first-there))
+    (λ c. search (needs, preconditions-asked)))

@@ -1,0 +1,3 @@
+-- What the reader's contracts cite beside the rules.
+pub mod Stretches
+pub mod Bodies
