@@ -1,8 +1,7 @@
 // The pair i < j below m behind a number, without a table and without a walk over the pairs before it.
 ghost use mathlib.Core.Path.{_≡_};
 ghost use Prim.Native.Nat.{_≤_, _<_};
-ghost use Rattle.rules.specs.Counts.{pairsBelow, pairsBefore};
-ghost use Rattle.rules.proofs.Pairs.{PairAt};
+ghost use Rattle.rules.specs.Counts.{pairsBelow, pairsBefore, PairAt};
 ghost use Rattle.pairs.specs.Bound.{mostNumbers};
 
 // Two numbers, the first below the second.

@@ -77,6 +77,10 @@ bit-of-sum b m j h = ap (λ y. eqb y 1) (digit-of-sum b m j h) ∙ one-or-none (
 pub word-there : (m i : ℕ) → i < m → i / wordBits < wordsFor m
 word-there m i h = omega arith
 
+pub length-packed : (bits : List Bool) → length (packed bits) ≡ wordsFor (length bits)
+unfolding packed
+length-packed bits = length-table (wordsFor (length bits)) _
+
 -- packed bits read back, whatever stands behind them
 pub packed-bit : (bits : List Bool) (row : List ℕ) (i : ℕ) → i < length bits → bitOfVariable (overRow (packed bits) row) (suc i) ≡ getD bits i false
 unfolding bitOfVariable overRow packed

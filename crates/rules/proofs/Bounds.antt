@@ -1,4 +1,4 @@
--- The bounds that the rules state of a formula: N, C, the literals of a clause and the longest file.
+-- The bounds that the rules state of a formula: N, C and the literals of a clause.
 -- Assumes nothing.
 use mathlib.Core.Path.{_≡_, refl}
 use mathlib.Core.Bool.{Bool, true}
@@ -10,7 +10,7 @@ use borrow.Author.Tests.{leb-true, le-leb}
 use lib.Dec.{leb}
 use lib.ListN.{length}
 use Rattle.rules.specs.Counting.{sumTo, every}
-use Rattle.rules.specs.Limits.{maxDomain, maxValues, maxActions, maxPairs, maxHorizon, maxFile, maxN, maxC, maxLiterals}
+use Rattle.rules.specs.Limits.{maxDomain, maxValues, maxActions, maxPairs, maxHorizon, maxN, maxC, maxLiterals}
 use Rattle.rules.specs.Task.{Task, n, d, S, A, action}
 use Rattle.rules.specs.Problem.{Problem, problem}
 use Rattle.rules.specs.Numbering.{N}
@@ -20,9 +20,6 @@ use Rattle.rules.proofs.EachClause.{every-clause}
 use Rattle.rules.proofs.Valid.{WellFormed}
 use Rattle.rules.specs.Counts.{pairsBelow, sum, countTable}
 use Rattle.rules.proofs.Counts.{length-most, length-when, C-is}
-
-pub longest-file : maxFile ≡ 17808
-longest-file = refl
 
 -- ---- N and C
 

@@ -20,8 +20,8 @@ use Rattle.rules.specs.Walk.{scheduleRules, CarriedOut, Good, isPlan}
 use Rattle.rules.specs.Readings.{scheduleOf, assignmentOf, rowsOf}
 use Rattle.rules.specs.Output.{outcome}
 use Rattle.rules.specs.declared.Verdict.the-variants.{Accepted}
-use Rattle.rules.specs.declared.Phase.the-variants.{ModelClosed}
-use Rattle.rules.proofs.Endings.{Complete}
+use Rattle.rules.specs.declared.Phase.{Phase}
+use Rattle.rules.proofs.Endings.{ModelHolds}
 
 module _ (T : Task) (k : ℕ) where
   abbrev P : Problem
@@ -35,7 +35,7 @@ module _ (T : Task) (k : ℕ) where
     pub counted : map length (families P) ≡ countTable T k
     pub header :
         headerLine P ≡ ascii "p cnf " ++ decimal (k * (S T + A T) + S T) ++ (space ∷ []) ++ decimal (sum (countTable T k)) ++ (lf ∷ [])
-    pub model : (rows : Rows) → (outcome P ModelClosed rows ≡ Accepted) ↔ Complete P rows
+    pub model : (phase : Phase) (rows : Rows) → (outcome P phase rows ≡ Accepted) ↔ ModelHolds P phase rows
     pub schedule : (entries : List ℕ) → (judge (scheduleRules T k entries) ≡ Accepted) ↔ CarriedOut T k entries
     pub rows-hold : (entries : List ℕ) (rows : Rows) (i : ℕ) → i < N P
         → (bitOfVariable (rowsOf P entries rows .given) (suc i) ≡ true)

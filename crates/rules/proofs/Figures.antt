@@ -1,23 +1,55 @@
 -- The figures that the rules state, for every valid task and every horizon from 0 to 64, and that files and tasks match.
 -- Assumes nothing.
-use mathlib.Core.Path.{_≡_}
-use mathlib.Core.Logic.{_⊎_}
+use mathlib.Core.Path.{_≡_, refl}
+use mathlib.Core.Logic.{_⊎_, _↔_}
 use mathlib.Core.Bool.{true}
 use mathlib.Core.List.{List}
 use Prim.Native.Nat.{ℕ, _≤_, _<_}
 use lib.ListN.{length}
 use Rattle.rules.specs.Counting.{every}
-use Rattle.rules.specs.Limits.{maxHorizon}
+use Rattle.rules.specs.Limits.{maxVariables, maxDomain, maxValues, maxGoals, maxActions, maxPairs, maxHorizon, maxLine, maxDigits, contentsBytes, maxFile}
 use Rattle.rules.specs.Task.{Task, Valid}
 use Rattle.rules.specs.File.{taskOf, fileOf, fileVerdict}
 use Rattle.rules.specs.Problem.{problem}
 use Rattle.rules.specs.Numbering.{N, valueNumber, actionNumber}
 use Rattle.rules.specs.Families.{C, clause}
 use Rattle.rules.specs.declared.Verdict.the-variants.{Accepted}
-use Rattle.rules.proofs.Valid.{valid-well-formed}
+use Rattle.rules.proofs.Valid.{WellFormed, valid-well-formed, well-formed-valid}
 use Rattle.rules.proofs.Bounds.{N-bound, C-bound, clause-bound}
 use Rattle.rules.proofs.Files.{accepted-valid, well-formed-accepted, read-back, file-short, isByte, file-bytes}
 use Rattle.rules.proofs.Numbering.{AtValue, AtAction, ValueAt, ActionAt, value-number-positive, value-number-within, action-number-positive, action-number-within, values-apart, actions-apart, value-no-action, numbered}
+
+-- the limits, in digits
+pub record TheLimits : Type 0 where
+  pub variables : maxVariables ≡ 96
+  pub domain : maxDomain ≡ 64
+  pub values : maxValues ≡ 1024
+  pub goals : maxGoals ≡ 96
+  pub actions : maxActions ≡ 512
+  pub pairs : maxPairs ≡ 8
+  pub horizon : maxHorizon ≡ 64
+  pub line : maxLine ≡ 4096
+  pub digits : maxDigits ≡ 6
+  pub file : (contentsBytes ≡ 16) × (maxFile ≡ 17808)
+
+pub the-limits : TheLimits
+the-limits =
+    record {
+      variables = refl;
+      domain = refl;
+      values = refl;
+      goals = refl;
+      actions = refl;
+      pairs = refl;
+      horizon = refl;
+      line = refl;
+      digits = refl;
+      file = (refl, refl);
+    }
+
+-- a valid task is what these limits and the rules' words say it is, part by part
+pub valid-is : (T : Task) → Valid T ↔ WellFormed T
+valid-is T = (valid-well-formed T, well-formed-valid T)
 
 pub record Figures (T : Task) (k : ℕ) : Type 0 where
   pub variables : N (problem T k) ≤ 99328

@@ -13,13 +13,14 @@ use Rattle.rules.specs.Problem.{Problem, problem}
 use Rattle.rules.specs.Numbering.{N}
 use Rattle.rules.specs.Families.{formula}
 use Rattle.rules.specs.Rows.{Rows, bitOfVariable}
-use Rattle.rules.specs.Truth.{satisfies, modelIn, assigned}
+use Rattle.rules.specs.Truth.{Complete, satisfies, modelIn, assigned}
 use Rattle.rules.specs.Walk.{CarriedOut}
 use Rattle.rules.specs.Readings.{scheduleOf, assignmentOf, rowsOf}
 use Rattle.rules.proofs.Counting.{length-table, getD-table}
 use Rattle.rules.proofs.Valid.{WellFormed}
 use Rattle.rules.proofs.Within.{Agree, satisfied-alike, schedule-alike}
-use Rattle.rules.proofs.Endings.{Complete}
+use Rattle.rules.specs.declared.Phase.the-variants.{ModelClosed}
+use Rattle.rules.proofs.Endings.{ModelHolds}
 use Rattle.rules.proofs.Schedules.{length-assignment, schedule-good, assignment-back, assignment-good, schedule-back}
 use Rattle.rules.proofs.Demands.{Demand2}
 use Rattle.rules.proofs.Proved.{demand2}
@@ -48,26 +49,26 @@ module _ (T : Task) (fine : WellFormed T) (k : ℕ) where
 
   in-bits : (rows : Rows) → Complete P rows → Agree P (modelIn rows) (assigned (bitsIn P rows))
   unfolding bitsIn
-  in-bits rows c = agree rows (bitsIn P rows) (c .all-given) (λ i l. sym (getD-table (N P) _ false i l))
+  in-bits rows c = agree rows (bitsIn P rows) c (λ i l. sym (getD-table (N P) _ false i l))
 
   -- ---- from rows
 
-  satisfying : (rows : Rows) → Complete P rows → satisfies (assigned (bitsIn P rows)) (formula P) ≡ true
-  satisfying rows c = sym (satisfied-alike P (modelIn rows) (assigned (bitsIn P rows)) (in-bits rows c) fine) ∙ c .all-true
+  satisfying : (rows : Rows) → Complete P rows → satisfies (modelIn rows) (formula P) ≡ true → satisfies (assigned (bitsIn P rows)) (formula P) ≡ true
+  satisfying rows c t = sym (satisfied-alike P (modelIn rows) (assigned (bitsIn P rows)) (in-bits rows c) fine) ∙ t
 
   same-schedule : (rows : Rows) → Complete P rows → scheduleOf P (modelIn rows) ≡ scheduleOf P (assigned (bitsIn P rows))
   same-schedule rows c = schedule-alike P (modelIn rows) (assigned (bitsIn P rows)) (in-bits rows c)
 
-  pub rows-good : (rows : Rows) → Complete P rows → CarriedOut T k (scheduleOf P (modelIn rows))
-  rows-good rows c = rw (same-schedule rows c) (schedule-good T k fine (bitsIn P rows) (length-bits rows) (satisfying rows c))
+  pub rows-good : (rows : Rows) → Complete P rows → satisfies (modelIn rows) (formula P) ≡ true → CarriedOut T k (scheduleOf P (modelIn rows))
+  rows-good rows c t = rw (same-schedule rows c) (schedule-good T k fine (bitsIn P rows) (length-bits rows) (satisfying rows c t))
 
-  pub rows-back : (rows lent : Rows) → Complete P rows → (i : ℕ) → i < N P
+  pub rows-back : (rows lent : Rows) → Complete P rows → satisfies (modelIn rows) (formula P) ≡ true → (i : ℕ) → i < N P
       → bitOfVariable (rowsOf P (scheduleOf P (modelIn rows)) lent .isTrue) (suc i) ≡ bitOfVariable (rows .isTrue) (suc i)
   unfolding bitsIn
-  rows-back rows lent c i l =
+  rows-back rows lent c t i l =
       demand2 T k .rows-hold (scheduleOf P (modelIn rows)) lent i l .1
       ∙ ap (λ e. getD (assignmentOf P e) i false) (same-schedule rows c)
-      ∙ ap (λ b. getD b i false) (assignment-back T k fine (bitsIn P rows) (length-bits rows) (satisfying rows c))
+      ∙ ap (λ b. getD b i false) (assignment-back T k fine (bitsIn P rows) (length-bits rows) (satisfying rows c t))
       ∙ getD-table (N P) _ false i l
 
   -- ---- from a schedule
@@ -77,10 +78,11 @@ module _ (T : Task) (fine : WellFormed T) (k : ℕ) where
       agree (rowsOf P entries lent) (assignmentOf P entries)
       (λ i l. demand2 T k .rows-hold entries lent i l .0) (λ i l. demand2 T k .rows-hold entries lent i l .1)
 
-  pub schedule-rows : (entries : List ℕ) (lent : Rows) → CarriedOut T k entries → Complete P (rowsOf P entries lent)
+  pub schedule-rows : (entries : List ℕ) (lent : Rows) → CarriedOut T k entries → ModelHolds P ModelClosed (rowsOf P entries lent)
   schedule-rows entries lent c =
       record {
-        all-given = λ i l. demand2 T k .rows-hold entries lent i l .0;
+        closed = refl;
+        complete = λ i l. demand2 T k .rows-hold entries lent i l .0;
         all-true = satisfied-alike P _ _ (of-schedule entries lent) fine ∙ assignment-good T k fine entries c;
       }
 

@@ -17,6 +17,7 @@ pub mod Places
 pub mod Pairs
 pub mod ByNumber
 pub mod Decimal
+pub mod Spoken
 pub mod Bounds
 pub mod Lowest
 pub mod LaidOut
@@ -29,7 +30,9 @@ pub mod Plans
 pub mod Endings
 pub mod Listed
 pub mod Table
+pub mod Runs
 pub mod Figures
 pub mod Demands
 pub mod Proved
 pub mod InRows
+pub mod AtCalls

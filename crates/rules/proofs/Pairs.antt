@@ -7,15 +7,10 @@ use native.Mathlib.Omega.{arith}
 use lib.ListN.{getD}
 use Rattle.rules.specs.Counting.{sumTo, table, forPairs}
 use Rattle.rules.specs.Counts.{pairsBelow, pairsBefore}
+pub use Rattle.rules.specs.Counts.{PairAt}
 use Rattle.rules.proofs.Counting.{length-table, getD-table, Located, locate, same-part}
 use Rattle.rules.proofs.Counts.{pairs-before, pairs-all}
 use Rattle.rules.proofs.Places.{within-each, getD-each}
-
--- i and j are the pair with the number r: it stands behind the pairs with a first number below i, and behind those of i with a second number below j
-pub record PairAt (m r i j : ℕ) : Type 0 where
-  pub rising : i < j
-  pub below : j < m
-  pub is : r ≡ pairsBefore m i + (j - suc i)
 
 -- how many numbers above i are below m: so many pairs have the first number i
 abbrev above : ℕ → ℕ → ℕ

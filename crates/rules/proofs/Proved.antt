@@ -18,7 +18,7 @@ use Rattle.rules.specs.Readings.{scheduleOf, assignmentOf, rowsOf}
 use Rattle.rules.proofs.Valid.{WellFormed, valid-well-formed}
 use Rattle.rules.proofs.Bits.{packed-bit}
 use Rattle.rules.proofs.Counts.{counts, C-is}
-use Rattle.rules.proofs.Endings.{accepted-complete, complete-accepted}
+use Rattle.rules.proofs.Endings.{accepted-holds, holds-accepted}
 use Rattle.rules.proofs.Schedules.{carried-out, out-carried, length-assignment, length-schedule, schedule-good, assignment-back, assignment-good, schedule-back}
 use Rattle.rules.proofs.Plans.{movesOf, moves-most, schedule-plan, padded, length-padded, plan-schedule}
 use Rattle.rules.proofs.Demands.{Demand2, Satisfying, Demand3}
@@ -31,7 +31,7 @@ demand2 T k =
       in-order = refl;
       counted = counts T k;
       header = ap (λ c. ascii "p cnf " ++ decimal (N P) ++ (space ∷ []) ++ decimal c ++ (lf ∷ [])) (C-is T k);
-      model = λ rows. (accepted-complete P rows, complete-accepted P rows);
+      model = λ phase rows. (accepted-holds P rows phase, holds-accepted P rows phase);
       schedule = λ entries. (carried-out T k entries, out-carried T k entries);
       rows-hold = λ entries rows i l. (
         packed-bit (replicate (N P) true) (rows .given) i (omega (arith, length-replicate {A = Bool} (N P) true)) ∙ getD-replicate (N P) i true false l,

@@ -121,6 +121,27 @@ assignment-ext P c c′ h =
     (λ s l. ap (valueBits (P .task)) (walked-ext (P .task) c c′ s (λ t a b q. h t a (omega arith) q)))
     h
 
+-- ---- only the first k entries count
+
+state-ext : (T : Task) (l l′ : List ℕ) (k : ℕ) → ((s : ℕ) → s < k → entry l s ≡ entry l′ s) → stateAt T l k ≡ stateAt T l′ k
+unfolding stateAt
+state-ext T l l′ zero h = refl
+state-ext T l l′ (suc k) h = rw (state-ext T l l′ k (λ s b. h s (omega arith)), h k (omega arith))
+
+pub carried-ext : (T : Task) (k : ℕ) (l l′ : List ℕ) → ((s : ℕ) → s < k → entry l s ≡ entry l′ s) → CarriedOut T k l → CarriedOut T k l′
+carried-ext T k l l′ h c =
+    record {
+      entries-known = λ s b. rw (← h s b) (c .entries-known s b);
+      each-applies = λ s b. rw (← h s b, ← state-ext T l l′ s (λ t q. h t (omega arith))) (c .each-applies s b);
+      reaches-goal = rw (← state-ext T l l′ k h) (c .reaches-goal);
+    }
+
+pub assignment-entries : (T : Task) (k : ℕ) (l l′ : List ℕ) → ((s : ℕ) → s < k → entry l s ≡ entry l′ s) → assignmentOf (problem T k) l ≡ assignmentOf (problem T k) l′
+assignment-entries T k l l′ h =
+    same-assignment T k l
+    ∙ assignment-ext (problem T k) (entryMoves l) (entryMoves l′) (λ s a b q. ap (λ e. eqb e (suc a)) (h s b))
+    ∙ sym (same-assignment T k l′)
+
 -- ---- the schedule of an assignment
 
 -- of at most one chosen number, one more than the first is what tells it

@@ -8,6 +8,7 @@ use Rattle.rules.specs.Counting.{first}
 use Rattle.rules.specs.declared.Refusal.{Refusal}
 use Rattle.rules.specs.declared.Refusal.the-variants.{FileLength, ContentsRow, BodyLength, DomainSize, StartValue, GoalPair, ActionAtFault, Horizon, ClauseNumber, Room, Grammar, OutOfPlace, OverN, GivenBefore, Unfinished, NotGiven, FalseClause, Unsatisfiable, Unknown, EntryOverA, DoesNotApply, GoalUnmet}
 use Rattle.rules.specs.declared.Verdict.{Verdict}
+use Rattle.rules.specs.declared.LineAnswer.{LineAnswer}
 use Rattle.rules.specs.declared.Verdict.the-variants.{Accepted, Refused}
 
 -- an answer's number and detail
@@ -47,6 +48,11 @@ answerOf (GoalUnmet i) = answer 22 i
 abbrev pub answerTo : Verdict → Answer
 answerTo Accepted = answer 0 0
 answerTo (Refused why) = answerOf why
+
+-- the next reading state is acceptance
+abbrev pub answerToLine : LineAnswer → Answer
+answerToLine (LineAnswer.Next reading) = answer 0 0
+answerToLine (LineAnswer.Refused why) = answerOf why
 
 -- what has to hold, and the refusal where it does not
 pub record Rule : Type 0 where

@@ -82,6 +82,19 @@ fitting room (l ∷ ls) = let more : ℕ = suc (fitting (room - length l) ls) in
 unfoldable pub linesFrom : List ℕ → ℕ → ℕ → (room : ℕ) → List (List ℕ)
 linesFrom file k c room = let ls : List (List ℕ) = drop c (clauseLines (problemOf file k)) in take (fitting room ls) ls
 
+-- lent room after each of these calls; many lines are judged as their first is
+abbrev pub literalsAfter : List ℕ → ℕ → ℕ → (room : List ℤ) → List ℤ
+literalsAfter file k c room = lentAfter (clauseVerdict file k c (length room)) (clauseSigned file k c) room
+
+abbrev pub headerAfter : List ℕ → ℕ → (room : List ℕ) → List ℕ
+headerAfter file k room = lentAfter (headerVerdict file k (length room)) (headerLine (problemOf file k)) room
+
+abbrev pub clauseLineAfter : List ℕ → ℕ → ℕ → (room : List ℕ) → List ℕ
+clauseLineAfter file k c room = lentAfter (clauseLineVerdict file k c (length room)) (clauseLine (clause (problemOf file k) c)) room
+
+abbrev pub linesAfter : List ℕ → ℕ → ℕ → (room : List ℕ) → List ℕ
+linesAfter file k c room = lentAfter (clauseLineVerdict file k c (length room)) (joined (linesFrom file k c (length room))) room
+
 -- ---- the reading of solver output
 
 unfoldable pub startVerdict : List ℕ → ℕ → Rows → Verdict
@@ -90,11 +103,13 @@ startVerdict file k rows = judge (problemRules file k ++ (demand (rowsFit (N (pr
 unfoldable pub startRows : List ℕ → ℕ → Rows → Rows
 startRows file k rows = rowsAfter (startVerdict file k rows) (clearedRows (problemOf file k) rows) rows
 
+-- 1 to 8, and 10 for both rows and k entries
+abbrev pub lentRules : List ℕ → ℕ → Rows → (entries : List ℕ) → List Rule
+lentRules file k rows entries = problemRules file k ++ (demand (rowsFit (N (problemOf file k)) rows && leb k (length entries)) Room ∷ [])
+
 unfoldable pub endVerdict : List ℕ → ℕ → Phase → Rows → (entries : List ℕ) → Verdict
 endVerdict file k phase rows entries =
-    inTurn
-    (judge (problemRules file k ++ (demand (rowsFit (N (problemOf file k)) rows && leb k (length entries)) Room ∷ [])))
-    (outcome (problemOf file k) phase rows)
+    inTurn (judge (lentRules file k rows entries)) (outcome (problemOf file k) phase rows)
 
 -- an accepted model becomes the schedule that it states
 unfoldable pub endEntries : List ℕ → ℕ → Phase → Rows → (entries : List ℕ) → List ℕ
@@ -104,9 +119,7 @@ endEntries file k phase rows entries = lentAfter (endVerdict file k phase rows e
 
 unfoldable pub backVerdict : List ℕ → ℕ → (entries : List ℕ) → Rows → Verdict
 backVerdict file k entries rows =
-    judge (problemRules file k
-    ++ (demand (rowsFit (N (problemOf file k)) rows && leb k (length entries)) Room ∷ [])
-    ++ scheduleRules (taskOf file) k entries)
+    judge (lentRules file k rows entries ++ scheduleRules (taskOf file) k entries)
 
 unfoldable pub backRows : List ℕ → ℕ → (entries : List ℕ) → Rows → Rows
 backRows file k entries rows = rowsAfter (backVerdict file k entries rows) (rowsOf (problemOf file k) entries rows) rows

@@ -1,7 +1,8 @@
--- The count of each family, as the rules' table has it.
+-- The count of each family, as the rules' table has it, and the number of a pair among all pairs.
 -- Assumes nothing.
 use mathlib.Core.List.{List, [], _∷_}
-use Prim.Native.Nat.{ℕ, suc, _-_, _*_, _/_}
+use mathlib.Core.Path.{_≡_}
+use Prim.Native.Nat.{ℕ, suc, _+_, _-_, _*_, _/_, _<_}
 use lib.ListN.{length, getD}
 use Rattle.rules.specs.Counting.{sumTo}
 use Rattle.rules.specs.Task.{Task, n, d, S, A, action}
@@ -28,3 +29,13 @@ countTable T k =
     ∷ k * S T
     ∷ k * pairsBelow (A T)
     ∷ []
+
+-- how many clauses the families before number f have, f from 0
+unfoldable pub clausesBefore : Task → ℕ → ℕ → ℕ
+clausesBefore T k f = sumTo f (λ i. getD (countTable T k) i 0)
+
+-- i and j are the pair with the number r: it stands behind the pairs with a first number below i, and behind those of i with a second number below j
+pub record PairAt (m r i j : ℕ) : Type 0 where
+  pub rising : i < j
+  pub below : j < m
+  pub is : r ≡ pairsBefore m i + (j - suc i)

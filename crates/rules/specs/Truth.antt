@@ -1,10 +1,13 @@
 -- Truth: a model says which variables are given and which are true; a clause is true by a literal that is.
 -- Assumes nothing.
-use Prim.Native.Nat.{ℕ, _-_}
+use mathlib.Core.Path.{_≡_}
+use Prim.Native.Nat.{ℕ, suc, _-_, _<_}
 use mathlib.Core.Bool.{Bool, true, false, not, _&&_}
 use mathlib.Core.List.{List}
 use lib.ListN.{getD}
 use Rattle.rules.specs.Counting.{every, any}
+use Rattle.rules.specs.Problem.{Problem}
+use Rattle.rules.specs.Numbering.{N}
 use Rattle.rules.specs.Families.{Literal, plus, minus, Clause}
 use Rattle.rules.specs.Rows.{Rows, bitOfVariable}
 
@@ -26,6 +29,10 @@ satisfies M cs = every (clauseTrue M) cs
 -- the model that two rows of bits state
 abbrev pub modelIn : Rows → Model
 modelIn rows = record { given = bitOfVariable (rows .given); isTrue = bitOfVariable (rows .isTrue) }
+
+-- a complete model gives each of the N variables
+abbrev pub Complete : Problem → Rows → Type 0
+Complete P rows = (i : ℕ) → i < N P → bitOfVariable (rows .given) (suc i) ≡ true
 
 -- an assignment of the variables 1, 2, and so on gives each of them
 abbrev pub assigned : List Bool → Model

@@ -1,0 +1,2 @@
+// The formula of an accepted file at a horizon: the place of clause c in its family, N and C, and clause c as literals.
+pub mod place;

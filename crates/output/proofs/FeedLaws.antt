@@ -1,0 +1,100 @@
+-- Laws of feeding: byte by byte, pieces do not matter, and the end comes to the rules' reading of the whole output.
+-- Assumes nothing.
+use mathlib.Core.Path.{_≡_, refl, sym, ap, ap₂, _∙_}
+use mathlib.Core.Logic.{⊎-elim}
+use mathlib.Core.Bool.{Bool, true, false, cond}
+use mathlib.Core.List.{List, [], _∷_, _++_, foldl, foldl-append, append-assoc}
+use Prim.Native.Nat.{ℕ, zero, suc, _+_, _-_, _≤_, _<_, min}
+use native.Mathlib.Omega.{arith}
+use native.Mathlib.Numerals.{add-one}
+use borrow.Author.Tests.{eq-eqb, ne-eqb, eqb-true, eqb-false, le-leb, lt-leb, lt-ltb, le-ltb}
+use lib.Dec.{eqb, leb, ltb}
+use lib.ListN.{length, getD, take, drop, set, length-append, length-take, length-set, drop-of-length-le}
+use lib.Seq.{drop-cons, take-all, length-take-le, take-suc-set}
+use Rattle.rules.specs.Limits.{maxLine}
+use Rattle.rules.specs.Answers.{demand, judge, inTurn}
+use Rattle.rules.specs.Text.{lf}
+use Rattle.rules.specs.Rows.{Rows}
+use Rattle.rules.specs.Lines.{onto, pieces, lineVerdict, rowsFit, Progress, progress, readLine}
+use Rattle.rules.specs.Output.{withoutEmptyLast, linesOf, readOn, readLines, readOutput}
+use Rattle.rules.specs.declared.Refusal.{Refusal}
+use Rattle.rules.specs.declared.Refusal.the-variants.{Room}
+use Rattle.rules.specs.declared.Reading.{Reading}
+use Rattle.rules.specs.declared.LineAnswer.{LineAnswer}
+use Rattle.rules.proofs.Bools.{either, below-or}
+use Rattle.output.specs.Line.{lent, leaves}
+use Rattle.output.specs.Feeding.{lineRoom, Fed, feedLeaves, fedByte, feedByte, feedAll, feedCall, finished, finish, finishCall}
+use Rattle.output.specs.declared.feeding.Feed.{Feed}
+
+-- ---- one byte
+
+pub held-length : (line : List ℕ) (held room : ℕ) → room ≤ length line → held ≤ room → held ≡ length (take held line)
+held-length line held room h k = sym (length-take-le held line (omega arith))
+
+pub least-length : (line : List ℕ) (held least room : ℕ) → room ≤ length line → least ≡ min held room → least ≡ length (take least line)
+least-length line held least room h e = sym (length-take-le least line (omega arith))
+
+module _ (state : Feed) (g t line : List ℕ) (b : ℕ) where
+  pub feed-refused : (why : Refusal) → state .answer ≡ LineAnswer.Refused why → feedLeaves state g t line ≡ feedByte (feedLeaves state g t line) b
+  unfolding feedByte
+  feed-refused why e = rw e
+
+  module _ (reading : Reading) (e : state .answer ≡ LineAnswer.Next reading) where
+    pub feed-line : (r : LineAnswer) (g′ t′ : List ℕ) → b ≡ lf → leaves r g′ t′ ≡ readLine reading (lent g t) (take (state .held) line)
+        → feedLeaves (record { answer = r; held = 0 }) g′ t′ line ≡ feedByte (feedLeaves state g t line) b
+    unfolding feedByte
+    feed-line r g′ t′ l p = rw (e, eq-eqb b lf l) (ap (λ p. record { progress = p; held = 0; line = line }) p)
+
+    pub feed-held : (b ≡ lf → ⊥) → state .held < lineRoom
+        → feedLeaves (record { answer = LineAnswer.Next reading; held = state .held + 1 }) g t (set line (state .held) b) ≡ feedByte (feedLeaves state g t line) b
+    unfolding feedByte
+    feed-held l h = rw (e, ne-eqb b lf l, lt-ltb (state .held) lineRoom h)
+
+    pub feed-full : (b ≡ lf → ⊥) → lineRoom ≤ state .held → feedLeaves state g t line ≡ feedByte (feedLeaves state g t line) b
+    unfolding feedByte
+    feed-full l h = rw (e, ne-eqb b lf l, le-ltb (state .held) lineRoom h)
+
+-- ---- the loop over the bytes, and the calls
+
+pub fed-on : (fed next whole : Fed) (bytes : List ℕ) (i : ℕ) → i < length bytes → next ≡ feedByte fed (getD bytes i 0)
+    → feedAll fed (drop i bytes) ≡ whole → feedAll next (drop (i + 1) bytes) ≡ whole
+unfolding feedAll
+fed-on fed next whole bytes i h e k = rw (add-one i, e) (rw (drop-cons bytes i 0 h) at k)
+
+fed-done : (fed whole : Fed) (bytes : List ℕ) (i : ℕ) → length bytes ≤ i → feedAll fed (drop i bytes) ≡ whole → fed ≡ whole
+unfolding feedAll
+fed-done fed whole bytes i h k = rw (drop-of-length-le bytes h) at k
+
+module _ (state : Feed) (g t line : List ℕ) where
+  pub call-short : (bytes : List ℕ) → length line < lineRoom
+      → feedLeaves (record { answer = LineAnswer.Refused Room; held = state .held }) g t line ≡ feedCall (feedLeaves state g t line) bytes
+  unfolding feedCall
+  call-short bytes h = rw (lt-leb lineRoom (length line) h)
+
+  pub call-done : (bytes : List ℕ) (h : ℕ) (fed : Fed) (i : ℕ) → lineRoom ≤ length line → h ≡ min (state .held) lineRoom → length bytes ≤ i
+      → feedAll fed (drop i bytes) ≡ feedAll (feedLeaves (record { answer = state .answer; held = h }) g t line) bytes
+      → fed ≡ feedCall (feedLeaves state g t line) bytes
+  unfolding feedCall
+  call-done bytes h fed i l e d k =
+      fed-done fed _ bytes i d k ∙ rw (le-leb lineRoom (length line) l, e)
+
+  pub end-short : length line < lineRoom → leaves (LineAnswer.Refused Room) g t ≡ finishCall (feedLeaves state g t line)
+  unfolding finishCall
+  end-short h = rw (lt-leb lineRoom (length line) h)
+
+  module _ (l : lineRoom ≤ length line) where
+    pub end-refused : (why : Refusal) → state .answer ≡ LineAnswer.Refused why → leaves (state .answer) g t ≡ finishCall (feedLeaves state g t line)
+    unfolding finishCall finish
+    end-refused why e = rw (le-leb lineRoom (length line) l, e)
+
+    module _ (h : ℕ) (e : h ≡ min (state .held) lineRoom) (reading : Reading) (a : state .answer ≡ LineAnswer.Next reading) where
+      pub end-empty : h ≡ 0 → leaves (LineAnswer.Next reading) g t ≡ finishCall (feedLeaves state g t line)
+      unfolding finishCall finish
+      end-empty z = rw (le-leb lineRoom (length line) l, a, eq-eqb (min (state .held) lineRoom) 0 (sym e ∙ z))
+
+      pub end-line : (r : LineAnswer) (g′ t′ : List ℕ) → (h ≡ 0 → ⊥) → leaves r g′ t′ ≡ readLine reading (lent g t) (take h line)
+          → leaves r g′ t′ ≡ finishCall (feedLeaves state g t line)
+      unfolding finishCall finish
+      end-line r g′ t′ z k =
+          rw (le-leb lineRoom (length line) l, a, ne-eqb (min (state .held) lineRoom) 0 (λ f. z (e ∙ f)))
+          (k ∙ ap (λ h. readLine reading (lent g t) (take h line)) e)

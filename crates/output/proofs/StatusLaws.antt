@@ -1,0 +1,131 @@
+-- Laws of comments and status lines: each answer by the rule that decides it.
+-- Assumes nothing.
+use mathlib.Core.Path.{_≡_, refl, sym, ap, ap₂, _∙_}
+use mathlib.Core.Logic.{⊎-elim}
+use mathlib.Core.Bool.{Bool, true, false, cond, not, _&&_, _||_}
+use mathlib.Core.List.{List, [], _∷_}
+use Prim.Native.Nat.{ℕ, zero, suc, _+_, _-_, _≤_, _<_, max}
+use native.Mathlib.Omega.{arith}
+use native.Mathlib.Numerals.{add-one}
+use borrow.Author.Tests.{eq-eqb, ne-eqb}
+use lib.Dec.{eqb}
+use lib.ListN.{length, drop, drop-of-length-le}
+use lib.Seq.{drop-cons}
+use Rattle.rules.proofs.Bools.{not-true, not-false}
+use Rattle.rules.specs.Answers.{demand, judge}
+use Rattle.rules.specs.File.{byte}
+use Rattle.rules.specs.Text.{space, ascii}
+use Rattle.rules.specs.Lines.{agree, same, saysSatisfiable, saysUnsatisfiable, saysUnknown, isStatus, statusReach, phaseSaid, awaitsStatus, Kind, comment, status, kindVerdict, phaseAfter, named, Progress, progress}
+use Rattle.rules.specs.declared.Refusal.{Refusal}
+use Rattle.rules.specs.declared.Refusal.the-variants.{Grammar, OutOfPlace}
+use Rattle.rules.specs.declared.Verdict.{Verdict}
+use Rattle.rules.specs.declared.Verdict.the-variants.{Accepted, Refused}
+use Rattle.rules.specs.declared.Phase.{Phase}
+use Rattle.rules.specs.declared.Phase.the-variants.{ModelOpen, SaidUnsatisfiable, SaidUnknown}
+use Rattle.rules.specs.declared.Reading.{Reading}
+use Rattle.rules.specs.declared.LineAnswer.{LineAnswer}
+use Rattle.output.specs.Line.{lent, byKind, answerTo}
+
+pub alone-short : (line : List ℕ) → length line ≡ 1 → true ≡ (eqb (length line) 1 || eqb (byte line 1) space)
+alone-short line h = rw (eq-eqb (length line) 1 h)
+
+pub alone-parted : (line : List ℕ) (b : ℕ) → (length line ≡ 1 → ⊥) → b ≡ byte line 1 → eqb b space ≡ (eqb (length line) 1 || eqb (byte line 1) space)
+alone-parted line b h e = rw (ne-eqb (length line) 1 h, e)
+
+pub comment-skipped : (reading : Reading) (line : List ℕ) (r : Bool) → r ≡ (eqb (length line) 1 || eqb (byte line 1) space) → r ≡ true
+    → LineAnswer.Next reading ≡ answerTo comment reading line
+unfolding answerTo byKind kindVerdict phaseAfter named judge
+comment-skipped reading line r e t = ap (λ b. progress (judge (demand b (Grammar 1) ∷ [])) reading [] (lent [] []) .answer) (sym t ∙ e)
+
+pub comment-broken : (reading : Reading) (line : List ℕ) (r : Bool) → r ≡ (eqb (length line) 1 || eqb (byte line 1) space) → r ≡ false
+    → LineAnswer.Refused (Grammar 1) ≡ answerTo comment reading line
+unfolding answerTo byKind kindVerdict phaseAfter named judge
+comment-broken reading line r e t = ap (λ b. progress (judge (demand b (Grammar 1) ∷ [])) reading [] (lent [] []) .answer) (sym t ∙ e)
+
+-- ---- how many first bytes two texts share
+
+agree-ends : (s t : List ℕ) (i : ℕ) → length s ≤ i → agree (drop i s) (drop i t) ≡ 0
+unfolding agree
+agree-ends s t i h = rw (drop-of-length-le s h)
+
+agree-short : (s t : List ℕ) → length t ≡ 0 → agree s t ≡ 0
+unfolding agree
+agree-short [] t h = refl
+agree-short (a ∷ s) [] h = refl
+agree-short (a ∷ s) (b ∷ t) h = absurd (omega arith)
+
+agree-at : (s t : List ℕ) (i : ℕ) → i < length s → i < length t → agree (drop i s) (drop i t) ≡ cond (eqb (byte s i) (byte t i)) (suc (agree (drop (i + 1) s) (drop (i + 1) t))) 0
+unfolding agree
+agree-at s t i h l = rw (add-one i, drop-cons s i 0 h, drop-cons t i 0 l)
+
+module _ (s t : List ℕ) (i n : ℕ) (left : i + agree (drop i s) (drop i t) ≡ n) where
+  pub shared-all : length s ≤ i → i ≡ n
+  shared-all h = omega (arith, agree-ends s t i h)
+
+  pub shared-short : length t ≤ i → i ≡ n
+  shared-short h = omega (arith, agree-short (drop i s) (drop i t) (ap length (drop-of-length-le t h)))
+
+  pub shared-differ : i < length s → i < length t → (byte s i ≡ byte t i → ⊥) → i ≡ n
+  shared-differ h l d = let z : agree (drop i s) (drop i t) ≡ 0 = rw (agree-at s t i h l, ne-eqb (byte s i) (byte t i) d) in omega arith
+
+  pub shared-on : i < length s → i < length t → byte s i ≡ byte t i → i + 1 + agree (drop (i + 1) s) (drop (i + 1) t) ≡ n
+  shared-on h l d =
+      let z : agree (drop i s) (drop i t) ≡ suc (agree (drop (i + 1) s) (drop (i + 1) t)) = rw (agree-at s t i h l, eq-eqb (byte s i) (byte t i) d) in omega arith
+
+pub same-not : (s t : List ℕ) (n : ℕ) → n ≡ agree s t → (n ≡ length s → ⊥) → false ≡ same s t
+unfolding same
+same-not s t n e h = rw (ne-eqb (agree s t) (length s) (λ f. h (e ∙ f)))
+
+pub same-by : (s t : List ℕ) (n : ℕ) → n ≡ agree s t → n ≡ length s → eqb n (length t) ≡ same s t
+unfolding same
+same-by s t n e h = rw (eq-eqb (agree s t) (length s) (sym e ∙ h), e)
+
+-- ---- status lines
+
+module _ (reading : Reading) (line : List ℕ) (a : Bool) (awaits : a ≡ awaitsStatus (reading .phase)) where
+  abbrev gives : Bool → Bool → ℕ → Phase → LineAnswer
+  gives a is n phase =
+      progress (judge (demand a (OutOfPlace 0) ∷ demand is (Grammar n) ∷ [])) (record { highest = reading .highest; phase = phase }) [] (lent [] []) .answer
+
+  given-by : gives a (isStatus line) (statusReach line) (phaseSaid line) ≡ answerTo status reading line
+  unfolding answerTo byKind kindVerdict phaseAfter named
+  given-by = ap (λ a. gives a (isStatus line) (statusReach line) (phaseSaid line)) awaits
+
+  pub status-out : not a ≡ true → LineAnswer.Refused (OutOfPlace 0) ≡ answerTo status reading line
+  unfolding judge
+  status-out t = ap (λ a. gives a (isStatus line) (statusReach line) (phaseSaid line)) (sym (not-true a t)) ∙ given-by
+
+  module _ (t : not a ≡ false) (x : Bool) (e : x ≡ same line saysSatisfiable) where
+    says : (phase : Phase) → isStatus line ≡ true → phaseSaid line ≡ phase
+        → LineAnswer.Next (record { highest = reading .highest; phase = phase }) ≡ answerTo status reading line
+    unfolding judge
+    says phase i p =
+        let g : LineAnswer.Next (record { highest = reading .highest; phase = phase }) ≡ gives a (isStatus line) (statusReach line) (phaseSaid line) =
+        rw (not-false a t, i, p) refl in
+        g ∙ given-by
+
+    pub status-satisfiable : x ≡ true
+        → LineAnswer.Next (record { highest = reading .highest; phase = ModelOpen }) ≡ answerTo status reading line
+    unfolding isStatus phaseSaid
+    status-satisfiable u = says ModelOpen (rw (sym e ∙ u)) (rw (sym e ∙ u))
+
+    module _ (u : x ≡ false) (y : Bool) (f : y ≡ same line saysUnsatisfiable) where
+      pub status-unsatisfiable : y ≡ true
+          → LineAnswer.Next (record { highest = reading .highest; phase = SaidUnsatisfiable }) ≡ answerTo status reading line
+      unfolding isStatus phaseSaid
+      status-unsatisfiable v = says SaidUnsatisfiable (rw (sym e ∙ u, sym f ∙ v)) (rw (sym e ∙ u, sym f ∙ v))
+
+      module _ (v : y ≡ false) (z : Bool) (g : z ≡ same line saysUnknown) where
+        pub status-unknown : z ≡ true
+            → LineAnswer.Next (record { highest = reading .highest; phase = SaidUnknown }) ≡ answerTo status reading line
+        unfolding isStatus phaseSaid
+        status-unknown w = says SaidUnknown (rw (sym e ∙ u, sym f ∙ v, sym g ∙ w)) (rw (sym e ∙ u, sym f ∙ v))
+
+        pub status-broken : z ≡ false → (n m i j k : ℕ) → i ≡ agree line saysSatisfiable → j ≡ agree line saysUnsatisfiable → k ≡ agree line saysUnknown
+            → m ≡ max j k → n ≡ max i m → LineAnswer.Refused (Grammar n) ≡ answerTo status reading line
+        unfolding isStatus statusReach judge
+        status-broken w n m i j k a₁ a₂ a₃ b₁ b₂ =
+            let reached : n ≡ statusReach line = b₂ ∙ ap₂ max a₁ (b₁ ∙ ap₂ max a₂ a₃) in
+            let h : LineAnswer.Refused (Grammar n) ≡ gives a (isStatus line) (statusReach line) (phaseSaid line) =
+            rw (not-false a t, sym e ∙ u, sym f ∙ v, sym g ∙ w, reached) refl in
+            h ∙ given-by

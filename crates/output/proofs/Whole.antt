@@ -1,0 +1,257 @@
+-- An output that is fed in pieces, cut anywhere, comes to the rules' reading of the whole.
+-- Assumes nothing.
+use mathlib.Core.Path.{_≡_, refl, sym, ap, ap₂, _∙_}
+use mathlib.Core.Logic.{⊎-elim}
+use mathlib.Core.Bool.{Bool, true, false, cond}
+use mathlib.Core.List.{List, [], _∷_, _++_, foldl, foldl-append, append-assoc, append-nil}
+use Prim.Native.Nat.{ℕ, zero, suc, _+_, _-_, _≤_, _<_, min}
+use native.Mathlib.Omega.{arith}
+use native.Mathlib.Numerals.{add-one}
+use borrow.Author.Tests.{eq-eqb, ne-eqb, eqb-true, eqb-false, le-leb, lt-leb, lt-ltb, le-ltb}
+use lib.Dec.{eqb, leb, ltb}
+use lib.ListN.{length, take, drop, set, length-append, length-take, length-set}
+use lib.Seq.{take-all, take-suc-set, take-append-le}
+use Rattle.rules.specs.Counting.{joined}
+use Rattle.rules.specs.Limits.{maxLine}
+use Rattle.rules.specs.Answers.{demand, judge, inTurn}
+use Rattle.rules.specs.Text.{lf}
+use Rattle.rules.specs.Rows.{Rows}
+use Rattle.rules.specs.Lines.{onto, pieces, lineVerdict, rowsFit, Progress, progress, readLine}
+use Rattle.rules.specs.Output.{withoutEmptyLast, linesOf, readOn, readLines, readOutput}
+use Rattle.rules.specs.declared.Refusal.{Refusal}
+use Rattle.rules.specs.declared.Refusal.the-variants.{Room, Grammar}
+use Rattle.rules.specs.declared.Reading.{Reading}
+use Rattle.rules.specs.declared.LineAnswer.{LineAnswer}
+use Rattle.rules.proofs.Bools.{either, below-or}
+use Rattle.output.specs.Words.{lengthUntil, piecesBehind}
+use Rattle.output.specs.Feeding.{lineRoom, Fed, fedByte, feedByte, feedAll, feedCall, finished, finish, finishCall}
+use Rattle.output.proofs.WordLaws.{pieces-cut}
+
+-- ---- pieces do not matter
+
+pub fed-in-pieces : (fed : Fed) (s t : List ℕ) → feedAll (feedAll fed s) t ≡ feedAll fed (s ++ t)
+unfolding feedAll
+fed-in-pieces fed s t = sym (foldl-append feedByte fed s t)
+
+fed-nothing : (fed : Fed) → fed ≡ feedAll fed []
+unfolding feedAll
+fed-nothing fed = refl
+
+-- ---- a line that is too long is told by its first bytes
+
+overlong : (reading : Reading) (rows : Rows) (line : List ℕ) → maxLine < length line
+    → _≡_ {A = Progress} (readLine reading rows line) (record { answer = LineAnswer.Refused (cond (rowsFit (reading .highest) rows) (Grammar maxLine) Room); rows = rows })
+unfolding readLine lineVerdict judge
+overlong reading rows line h =
+    ⊎-elim (λ t. rw (lt-leb (length line) maxLine h) (rw t refl)) (λ t. rw t refl) (either (rowsFit (reading .highest) rows))
+
+clipped : (reading : Reading) (rows : Rows) (line : List ℕ) → readLine reading rows (take lineRoom line) ≡ readLine reading rows line
+clipped reading rows line =
+    ⊎-elim
+    (λ h. overlong reading rows (take lineRoom line) (omega (arith, length-take lineRoom line)) ∙ sym (overlong reading rows line (omega arith)))
+    (λ h. ap (readLine reading rows) (take-all lineRoom line h))
+    (below-or lineRoom (length line))
+
+-- ---- a refused line ends the reading
+
+abbrev step : Progress → List ℕ → Progress
+step p line = readOn (p .answer) (p .rows) line
+
+on-stays : (answer : LineAnswer) (why : Refusal) (rows : Rows) (line : List ℕ) → answer ≡ LineAnswer.Refused why
+    → _≡_ {A = Progress} (readOn answer rows line) (record { answer = answer; rows = rows })
+on-stays answer why rows line e = rw e
+
+lines-stay : (p : Progress) (why : Refusal) (ls : List (List ℕ)) → p .answer ≡ LineAnswer.Refused why → foldl step p ls ≡ p
+lines-stay p why [] e = refl
+lines-stay p why (l ∷ ls) e = ap (λ q. foldl step q ls) (on-stays (p .answer) why (p .rows) l e) ∙ lines-stay p why ls e
+
+byte-stays : (answer : LineAnswer) (why : Refusal) (rows : Rows) (held : ℕ) (line : List ℕ) (b : ℕ) → answer ≡ LineAnswer.Refused why
+    → _≡_ {A = Fed} (fedByte answer rows held line b) (record { progress = record { answer = answer; rows = rows }; held = held; line = line })
+byte-stays answer why rows held line b e = rw e
+
+fed-stays : (fed : Fed) (why : Refusal) (bytes : List ℕ) → fed .progress .answer ≡ LineAnswer.Refused why → feedAll fed bytes ≡ fed
+unfolding feedAll feedByte
+fed-stays fed why [] e = refl
+fed-stays fed why (b ∷ bytes) e =
+    ap (λ f. feedAll f bytes) (byte-stays (fed .progress .answer) why (fed .progress .rows) (fed .held) (fed .line) b e) ∙ fed-stays fed why bytes e
+
+end-stays : (answer : LineAnswer) (why : Refusal) (rows : Rows) (held : ℕ) (line : List ℕ) → answer ≡ LineAnswer.Refused why
+    → _≡_ {A = Progress} (finished answer rows held line) (record { answer = answer; rows = rows })
+end-stays answer why rows held line e = rw e
+
+-- ---- lines, where some of the first is read already
+
+abbrev prefixed : List ℕ → List (List ℕ) → List (List ℕ)
+prefixed s [] = s ∷ []
+prefixed s (q ∷ qs) = (s ++ q) ∷ qs
+
+prefixed-onto : (s : List ℕ) (b : ℕ) (ps : List (List ℕ)) → prefixed s (onto b ps) ≡ prefixed (s ++ (b ∷ [])) ps
+prefixed-onto s b [] = refl
+prefixed-onto s b (q ∷ qs) = ap (λ l. l ∷ qs) (sym (append-assoc s (b ∷ []) q))
+
+prefixed-none : (bytes : List ℕ) → prefixed [] (pieces lf bytes) ≡ pieces lf bytes
+prefixed-none bytes = rw (pieces-cut lf bytes)
+
+not-last : (l bytes : List ℕ) → withoutEmptyLast (l ∷ pieces lf bytes) ≡ l ∷ withoutEmptyLast (pieces lf bytes)
+unfolding withoutEmptyLast
+not-last l bytes = rw (pieces-cut lf bytes)
+
+-- ---- what is held of a line
+
+record Holds (held : ℕ) (line begun : List ℕ) : Type 0 where
+  much : held ≡ min (length begun) lineRoom
+  same : take held line ≡ take lineRoom begun
+  room : lineRoom ≤ length line
+
+holds-none : (line : List ℕ) → lineRoom ≤ length line → Holds 0 line []
+holds-none line h = record { much = refl; same = refl; room = h }
+
+holds-more : (held : ℕ) (line begun : List ℕ) (b : ℕ) → Holds held line begun → held < lineRoom → Holds (held + 1) (set line held b) (begun ++ (b ∷ []))
+holds-more held line begun b h l =
+    let long : length (begun ++ (b ∷ [])) ≡ length begun + 1 = length-append begun (b ∷ []) in
+    record {
+      much = omega (arith, h .much);
+      same =
+          ap (λ k. take k (set line held b)) (add-one held)
+          ∙ take-suc-set line held b (omega (arith, h .room))
+          ∙ ap (λ s. s ++ (b ∷ [])) (h .same ∙ take-all lineRoom begun (omega (arith, h .much)))
+          ∙ sym (take-all lineRoom (begun ++ (b ∷ [])) (omega (arith, h .much)));
+      room = omega (arith, h .room, length-set line held b);
+    }
+
+holds-full : (held : ℕ) (line begun : List ℕ) (b : ℕ) → Holds held line begun → lineRoom ≤ held → Holds held line (begun ++ (b ∷ []))
+holds-full held line begun b h l =
+    let long : length (begun ++ (b ∷ [])) ≡ length begun + 1 = length-append begun (b ∷ []) in
+    record {
+      much = omega (arith, h .much);
+      same = h .same ∙ sym (take-append-le lineRoom begun (b ∷ []) (omega (arith, h .much)));
+      room = h .room;
+    }
+
+-- the line that is held, read, is the line that was begun
+held-read : (reading : Reading) (rows : Rows) (held : ℕ) (line begun : List ℕ) → Holds held line begun
+    → readLine reading rows (take held line) ≡ readLine reading rows begun
+held-read reading rows held line begun h = ap (readLine reading rows) (h .same) ∙ clipped reading rows begun
+
+-- ---- the whole
+
+abbrev Read : List ℕ → LineAnswer → Rows → ℕ → List ℕ → List ℕ → Type 0
+Read bytes answer rows held line begun =
+    finish (feedAll (record { progress = record { answer = answer; rows = rows }; held = held; line = line }) bytes)
+    ≡ foldl step (record { answer = answer; rows = rows }) (withoutEmptyLast (prefixed begun (pieces lf bytes)))
+
+read-refused : (bytes : List ℕ) (why : Refusal) (rows : Rows) (held : ℕ) (line begun : List ℕ) → Read bytes (LineAnswer.Refused why) rows held line begun
+unfolding finish
+read-refused bytes why rows held line begun =
+    ap finish (fed-stays (record { progress = record { answer = LineAnswer.Refused why; rows = rows }; held = held; line = line }) why bytes refl)
+    ∙ sym (lines-stay (record { answer = LineAnswer.Refused why; rows = rows }) why (withoutEmptyLast (prefixed begun (pieces lf bytes))) refl)
+
+read-end : (reading : Reading) (rows : Rows) (held : ℕ) (line begun : List ℕ) → Holds held line begun → Read [] (LineAnswer.Next reading) rows held line begun
+unfolding feedAll finish pieces withoutEmptyLast
+read-end reading rows held line [] h = rw (eq-eqb held 0 (h .much))
+read-end reading rows held line (b ∷ begun) h =
+    rw (ne-eqb held 0 (λ e. omega (arith, h .much)))
+    (held-read reading rows held line (b ∷ begun) h ∙ ap (λ s. readLine reading rows (b ∷ s)) (sym (append-nil begun)))
+
+read-lf : (bytes : List ℕ) (reading : Reading) (rows : Rows) (held : ℕ) (line begun : List ℕ) (b : ℕ) → b ≡ lf → Holds held line begun
+    → Read bytes (readLine reading rows begun .answer) (readLine reading rows begun .rows) 0 line []
+    → Read (b ∷ bytes) (LineAnswer.Next reading) rows held line begun
+unfolding feedAll feedByte pieces
+read-lf bytes reading rows held line begun b e h rest =
+    let first : Progress = record { answer = LineAnswer.Next reading; rows = rows } in
+    let others : List (List ℕ) = withoutEmptyLast (pieces lf bytes) in
+    rw (eq-eqb b lf e)
+    (ap (λ p. finish (feedAll (record { progress = p; held = 0; line = line }) bytes)) (held-read reading rows held line begun h)
+    ∙ rest
+    ∙ ap (λ ls. foldl step (readLine reading rows begun) (withoutEmptyLast ls)) (prefixed-none bytes)
+    ∙ ap (λ l. foldl step (readLine reading rows l) others) (sym (append-nil begun))
+    ∙ ap (foldl step first) (sym (not-last (begun ++ []) bytes)))
+
+read-byte : (bytes : List ℕ) (reading : Reading) (rows : Rows) (held : ℕ) (line begun : List ℕ) (b : ℕ) → (b ≡ lf → ⊥) → Holds held line begun
+    → ((held : ℕ) (line begun : List ℕ) → Holds held line begun → Read bytes (LineAnswer.Next reading) rows held line begun)
+    → Read (b ∷ bytes) (LineAnswer.Next reading) rows held line begun
+unfolding feedAll feedByte pieces
+read-byte bytes reading rows held line begun b e h rest =
+    let first : Progress = record { answer = LineAnswer.Next reading; rows = rows } in
+    let longer : foldl step first (withoutEmptyLast (prefixed (begun ++ (b ∷ [])) (pieces lf bytes)))
+    ≡ foldl step first (withoutEmptyLast (prefixed begun (onto b (pieces lf bytes)))) =
+    ap (λ ls. foldl step first (withoutEmptyLast ls)) (sym (prefixed-onto begun b (pieces lf bytes))) in
+    rw (ne-eqb b lf e)
+    (⊎-elim
+    (λ l. rw (lt-ltb held lineRoom l) (rest (held + 1) (set line held b) (begun ++ (b ∷ [])) (holds-more held line begun b h l) ∙ longer))
+    (λ l. rw (le-ltb held lineRoom l) (rest held line (begun ++ (b ∷ [])) (holds-full held line begun b h l) ∙ longer))
+    (below-or held lineRoom))
+
+read-all : (bytes : List ℕ) (answer : LineAnswer) (rows : Rows) (held : ℕ) (line begun : List ℕ) → Holds held line begun → Read bytes answer rows held line begun
+read-all [] (LineAnswer.Refused why) rows held line begun h = read-refused [] why rows held line begun
+read-all [] (LineAnswer.Next reading) rows held line begun h = read-end reading rows held line begun h
+read-all (b ∷ bytes) (LineAnswer.Refused why) rows held line begun h = read-refused (b ∷ bytes) why rows held line begun
+read-all (b ∷ bytes) (LineAnswer.Next reading) rows held line begun h =
+    ⊎-elim
+    (λ t.
+    read-lf bytes reading rows held line begun b (eqb-true b lf t) h
+    (read-all bytes (readLine reading rows begun .answer) (readLine reading rows begun .rows) 0 line [] (holds-none line (h .room))))
+    (λ t. read-byte bytes reading rows held line begun b (eqb-false b lf t) h (λ held line begun h. read-all bytes (LineAnswer.Next reading) rows held line begun h))
+    (either (eqb b lf))
+
+-- any bytes, fed from the start with room for a line, end in the rules' reading of them
+pub whole : (reading : Reading) (rows : Rows) (line bytes : List ℕ) → lineRoom ≤ length line
+    → finish (feedAll (record { progress = record { answer = LineAnswer.Next reading; rows = rows }; held = 0; line = line }) bytes) ≡ readOutput reading rows bytes
+unfolding readOutput readLines linesOf
+whole reading rows line bytes h =
+    read-all bytes (LineAnswer.Next reading) rows 0 line [] (holds-none line h)
+    ∙ ap (λ ls. foldl step (record { answer = LineAnswer.Next reading; rows = rows }) (withoutEmptyLast ls)) (prefixed-none bytes)
+
+-- ---- the calls: fed from the start in any pieces, with room for a line
+
+record Sound (fed : Fed) : Type 0 where
+  room : lineRoom ≤ length (fed .line)
+  within : fed .held ≤ lineRoom
+
+sound-byte : (answer : LineAnswer) (rows : Rows) (held : ℕ) (line : List ℕ) (b : ℕ) → lineRoom ≤ length line → held ≤ lineRoom → Sound (fedByte answer rows held line b)
+sound-byte (LineAnswer.Refused why) rows held line b h k = record { room = h; within = k }
+sound-byte (LineAnswer.Next reading) rows held line b h k =
+    ⊎-elim (λ t. rw t (record { room = h; within = omega arith }))
+    (λ t.
+    rw t
+    (⊎-elim (λ l. rw (lt-ltb held lineRoom l) (record { room = omega (arith, length-set line held b); within = omega arith }))
+    (λ l. rw (le-ltb held lineRoom l) (record { room = h; within = k }))
+    (below-or held lineRoom)))
+    (either (eqb b lf))
+
+sound-all : (fed : Fed) (bytes : List ℕ) → Sound fed → Sound (feedAll fed bytes)
+unfolding feedAll feedByte
+sound-all fed [] s = s
+sound-all fed (b ∷ bytes) s =
+    sound-all (feedByte fed b) bytes (sound-byte (fed .progress .answer) (fed .progress .rows) (fed .held) (fed .line) b (s .room) (s .within))
+
+no-more-held : (fed : Fed) → Sound fed → _≡_ {A = Fed} (record { progress = fed .progress; held = min (fed .held) lineRoom; line = fed .line }) fed
+no-more-held fed s =
+    let least : min (fed .held) lineRoom ≡ fed .held = omega (arith, s .within) in
+    ap (λ k. record { progress = fed .progress; held = k; line = fed .line }) least
+
+call-feeds : (fed : Fed) (bytes : List ℕ) → Sound fed → feedCall fed bytes ≡ feedAll fed bytes
+unfolding feedCall
+call-feeds fed bytes s = rw (le-leb lineRoom (length (fed .line)) (s .room)) (ap (λ f. feedAll f bytes) (no-more-held fed s))
+
+call-finishes : (fed : Fed) → Sound fed → finishCall fed ≡ finish fed
+unfolding finishCall
+call-finishes fed s = rw (le-leb lineRoom (length (fed .line)) (s .room)) (ap finish (no-more-held fed s))
+
+calls-feed : (fed : Fed) (parts : List (List ℕ)) → Sound fed → foldl feedCall fed parts ≡ feedAll fed (joined parts)
+unfolding joined
+calls-feed fed [] s = fed-nothing fed
+calls-feed fed (p ∷ parts) s =
+    ap (λ f. foldl feedCall f parts) (call-feeds fed p s)
+    ∙ calls-feed (feedAll fed p) parts (sound-all fed p s)
+    ∙ fed-in-pieces fed p (joined parts)
+
+pub read-in-parts : (reading : Reading) (rows : Rows) (line : List ℕ) (parts : List (List ℕ)) → lineRoom ≤ length line
+    → finishCall (foldl feedCall (record { progress = record { answer = LineAnswer.Next reading; rows = rows }; held = 0; line = line }) parts)
+    ≡ readOutput reading rows (joined parts)
+read-in-parts reading rows line parts h =
+    let begun : Fed = record { progress = record { answer = LineAnswer.Next reading; rows = rows }; held = 0; line = line } in
+    let s : Sound begun = record { room = h; within = omega arith } in
+    ap finishCall (calls-feed begun parts s)
+    ∙ call-finishes (feedAll begun (joined parts)) (sound-all begun (joined parts) s)
+    ∙ whole reading rows line (joined parts) h

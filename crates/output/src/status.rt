@@ -1,0 +1,105 @@
+// Comments and status lines.
+use crate::words;
+use rules::LineAnswer;
+use rules::Phase;
+use rules::Reading;
+use rules::Refusal;
+ghost use mathlib.Core.Path.{_≡_};
+ghost use Prim.Native.Nat.{max};
+ghost use Rattle.rules.specs.Lines.{comment, status, agree, same, awaitsStatus};
+ghost use Rattle.output.specs.Line.{answerTo};
+
+// A comment is skipped.
+pub fn comment_line(reading: Reading, line: &[u8]) -> LineAnswer
+    ensures { λ r. ⌜ r ≡ answerTo comment reading (now (line .entry)) ⌝ }
+{
+    if words::stands_alone(line) {
+        return LineAnswer::Next(reading);
+    }
+    LineAnswer::Refused(Refusal::Grammar(1))
+}
+
+fn awaits_status(phase: Phase) -> bool
+    ensures { λ r. ⌜ r ≡ awaitsStatus phase ⌝ }
+{
+    match phase {
+        Phase::NoStatus => true,
+        Phase::ModelOpen => false,
+        Phase::ModelClosed => false,
+        Phase::SaidUnsatisfiable => false,
+        Phase::SaidUnknown => false,
+    }
+}
+
+// How many first bytes a line and a text share.
+fn shared(line: &[u8], text: &[u8]) -> usize
+    ensures { λ r. ⌜ r ≡ agree (now (line .entry)) (now (text .entry)) ⌝ }
+{
+    let mut i = 0;
+    while i < line.len() {
+        if text.len() <= i {
+            return i;
+        }
+        if line[i] != text[i] {
+            return i;
+        }
+        i += 1;
+    }
+    i
+}
+
+fn is_same(line: &[u8], text: &[u8]) -> bool
+    ensures { λ r. ⌜ r ≡ same (now (line .entry)) (now (text .entry)) ⌝ }
+{
+    let both = shared(line, text);
+    if both != line.len() {
+        return false;
+    }
+    both == text.len()
+}
+
+fn larger(a: usize, b: usize) -> usize
+    ensures { λ r. ⌜ r ≡ max a b ⌝ }
+{
+    if a < b {
+        return b;
+    }
+    a
+}
+
+// A status line says how the model goes on.
+pub fn status_line(reading: Reading, line: &[u8]) -> LineAnswer
+    ensures { λ r. ⌜ r ≡ answerTo status reading (now (line .entry)) ⌝ }
+{
+    let highest = reading.highest;
+    let phase = reading.phase;
+    if !awaits_status(phase) {
+        return LineAnswer::Refused(Refusal::OutOfPlace(0));
+    }
+    let satisfiable = b"s SATISFIABLE";
+    let unsatisfiable = b"s UNSATISFIABLE";
+    let unknown = b"s UNKNOWN";
+    if is_same(line, satisfiable) {
+        return LineAnswer::Next(Reading {
+            highest,
+            phase: Phase::ModelOpen,
+        });
+    }
+    if is_same(line, unsatisfiable) {
+        return LineAnswer::Next(Reading {
+            highest,
+            phase: Phase::SaidUnsatisfiable,
+        });
+    }
+    if is_same(line, unknown) {
+        return LineAnswer::Next(Reading {
+            highest,
+            phase: Phase::SaidUnknown,
+        });
+    }
+    let reached = larger(
+        shared(line, satisfiable),
+        larger(shared(line, unsatisfiable), shared(line, unknown)),
+    );
+    LineAnswer::Refused(Refusal::Grammar(reached))
+}

@@ -1,0 +1,141 @@
+// Words of a solver's line: what stands between spaces, read as a number.
+ghost use mathlib.Core.Path.{_≡_};
+ghost use mathlib.Core.Bool.{_||_};
+ghost use Prim.Native.Nat.{_≤_, _<_, _-_};
+ghost use lib.Dec.{eqb};
+ghost use lib.ListN.{length};
+ghost use Rattle.rules.specs.Limits.{maxDigits};
+ghost use Rattle.rules.specs.File.{byte};
+ghost use Rattle.rules.specs.Text.{space, digit0};
+ghost use Rattle.rules.specs.Lines.{isDigit, signBytes, reach, valueFrom};
+ghost use Rattle.output.specs.Words.{EndsAt, digitRun, wordOf};
+
+const MAX_DIGITS: usize = 6;
+
+// A number that a word is, 0 for the closing one, or how far the word could be a number.
+pub enum Word {
+    Number(usize, bool),
+    Broken(usize),
+}
+
+// Where the word that begins at `at` ends: at the next space, or with the line.
+pub fn word_end(line: &[u8], at: usize) -> usize
+    requires { ⌜ at ≤ length (now line) ⌝ }
+    ensures { λ r. ⌜ EndsAt (now (line .entry)) at r ⌝ }
+{
+    let mut end = at;
+    while end < line.len() {
+        if line[end] == b' ' {
+            return end;
+        }
+        end += 1;
+    }
+    end
+}
+
+// The byte at a place; past the end it is 0.
+pub fn byte_at(bytes: &[u8], i: usize) -> u8
+    ensures { λ r. ⌜ r ≡ byte (now (bytes .entry)) i ⌝ }
+{
+    if i < bytes.len() {
+        return bytes[i];
+    }
+    0
+}
+
+// Whether a line's first byte is all of it, or a space follows.
+pub fn stands_alone(line: &[u8]) -> bool
+    ensures { λ r. ⌜ r ≡ (eqb (length (now (line .entry))) 1 || eqb (byte (now (line .entry)) 1) space) ⌝ }
+{
+    if line.len() == 1 {
+        return true;
+    }
+    byte_at(line, 1) == b' '
+}
+
+// 1 where a word begins with a minus.
+fn sign_bytes(word: &[u8]) -> usize
+    ensures { λ r. ⌜ (r ≡ signBytes (now (word .entry))) × (r ≤ length (now (word .entry))) ⌝ }
+{
+    if byte_at(word, 0) == b'-' {
+        return 1;
+    }
+    0
+}
+
+fn is_digit(b: u8) -> bool
+    ensures { λ r. ⌜ r ≡ isDigit b ⌝ }
+{
+    if b < b'0' {
+        return false;
+    }
+    b <= b'9'
+}
+
+// How many digits the bytes begin with, six at most.
+fn digit_run(bytes: &[u8]) -> usize
+    ensures { λ r. ⌜ (r ≡ digitRun (now (bytes .entry))) × (r ≤ maxDigits) ⌝ }
+{
+    let mut i = 0;
+    while i < bytes.len() {
+        if i == MAX_DIGITS {
+            return i;
+        }
+        if !is_digit(bytes[i]) {
+            return i;
+        }
+        i += 1;
+    }
+    i
+}
+
+// How many of a word's first bytes can begin a number.
+fn reach_of(word: &[u8]) -> usize
+    ensures { λ r. ⌜ r ≡ reach (now (word .entry)) ⌝ }
+{
+    let sign = sign_bytes(word);
+    let digits = &word[sign..];
+    if byte_at(digits, 0) == b'0' {
+        return 1;
+    }
+    sign + digit_run(digits)
+}
+
+// What a byte is worth as a digit.
+fn worth(b: u8) -> usize
+    ensures { λ r. ⌜ (r ≡ b - digit0) × (r < 256) ⌝ }
+{
+    if b < b'0' {
+        return 0;
+    }
+    (b - b'0') as usize
+}
+
+// The value of at most six digits.
+fn value(digits: &[u8]) -> usize
+    requires { ⌜ length (now digits) ≤ maxDigits ⌝ }
+    ensures { λ r. ⌜ r ≡ valueFrom 0 (now (digits .entry)) ⌝ }
+{
+    let mut sum = 0;
+    let mut i = 0;
+    while i < digits.len() {
+        sum = 10 * sum + worth(digits[i]);
+        i += 1;
+    }
+    sum
+}
+
+// A word as a number.
+pub fn word_of(word: &[u8]) -> Word
+    ensures { λ r. ⌜ r ≡ wordOf (now (word .entry)) ⌝ }
+{
+    let sign = sign_bytes(word);
+    let reached = reach_of(word);
+    if reached != word.len() {
+        return Word::Broken(reached);
+    }
+    if reached <= sign {
+        return Word::Broken(reached);
+    }
+    Word::Number(value(&word[sign..]), sign == 1)
+}

@@ -1,0 +1,4 @@
+-- What is proved of rows of bits.
+pub mod Bits
+pub mod StretchLaws
+pub mod Decided

@@ -1,0 +1,30 @@
+-- A stretch of variables in a row of bits: `many` of them, the first one `from`.
+-- Assumes nothing.
+use Prim.Native.Nat.{ℕ, _+_, _≤_, _<_}
+use mathlib.Core.Path.{_≡_}
+use mathlib.Core.Bool.{true, false, cond}
+use mathlib.Core.List.{List}
+use Rattle.rules.specs.Counting.{sumTo, first}
+use Rattle.rules.specs.Rows.{wordBits, bitOf, bitOfVariable}
+
+-- ---- in one word
+
+-- how many of the lowest bits are set
+unfoldable pub setBelow : ℕ → ℕ → ℕ
+setBelow w size = sumTo size (λ i. cond (bitOf w i) 1 0)
+
+-- the lowest set bit; the word's width where none is
+pub record LowestSet (w r : ℕ) : Type 0 where
+  pub within : r ≤ wordBits
+  pub below : (i : ℕ) → i < r → bitOf w i ≡ false
+  pub here : r < wordBits → bitOf w r ≡ true
+
+-- ---- in a row
+
+-- how many are set
+unfoldable pub countSet : List ℕ → ℕ → ℕ → ℕ
+countSet row from many = sumTo many (λ i. cond (bitOfVariable row (from + i)) 1 0)
+
+-- which is the first that is set, counted from 0; `many` where none is
+unfoldable pub firstSet : List ℕ → ℕ → ℕ → ℕ
+firstSet row from many = first many (λ i. bitOfVariable row (from + i))
