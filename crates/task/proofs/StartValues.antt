@@ -1,17 +1,19 @@
 -- The record of values, filled from the start body, value by value.
 -- Assumes nothing.
 use mathlib.Core.Path.{_≡_, refl, sym, ap, _∙_}
+use mathlib.Core.Logic.{⊎-elim}
 use mathlib.Core.List.{List, [], _∷_, _++_}
 use Prim.Native.Nat.{ℕ, _+_, _-_, _≤_, _<_}
 use native.Mathlib.Omega.{arith}
 use native.Mathlib.Numerals.{add-one}
-use lib.ListN.{length, getD, set, take, drop, replicate, length-replicate, replicate-append-replicate}
-use lib.Seq.{take-suc, take-all, drop-at, length-take-le}
+use lib.ListN.{length, getD, set, take, drop, replicate, length-replicate, replicate-append-replicate, getD-replicate, List·getD-eq-default}
+use lib.Seq.{take-suc, take-all, drop-at, length-take-le, getD-append-add}
 use Rattle.rules.specs.Limits.{maxVariables}
 use Rattle.rules.specs.Task.{n}
 use Rattle.rules.specs.File.{body, taskOf, fileVerdict}
 use Rattle.rules.specs.Walk.{startState}
 use Rattle.rules.specs.declared.Verdict.the-variants.{Accepted}
+use Rattle.rules.proofs.Bools.{below-or}
 use Rattle.rules.proofs.Files.{accepted-well-formed}
 use Rattle.task.proofs.Rows.{over, over-more}
 
@@ -64,3 +66,18 @@ module _ (file start : List ℕ) (ok : fileVerdict file ≡ Accepted) (e : start
   pub state-started : (values : List ℕ) (x : ℕ) → Started maxVariables start values x → length start ≤ x → values ≡ startState (taskOf file)
   unfolding startState taskOf
   state-started values x s l = started-all maxVariables start values x s l ∙ rw (← as-many, e)
+
+zero-at : (k i : ℕ) → getD (zeros k) i 0 ≡ 0
+zero-at k i =
+    ⊎-elim (λ h. getD-replicate k i 0 0 h) (λ h. List·getD-eq-default (zeros k) 0 (omega (arith, length-replicate {A = ℕ} k 0))) (below-or i k)
+
+-- from n on the values are 0
+pub zero-behind : (file values : List ℕ) (x : ℕ) → fileVerdict file ≡ Accepted → values ≡ startState (taskOf file) → n (taskOf file) ≤ x → getD values x 0 ≡ 0
+unfolding startState
+zero-behind file values x ok e h =
+    let start : List ℕ = taskOf file .start in
+    let behind : x ≡ length start + (x - length start) = omega (arith, accepted-well-formed file ok .start-whole) in
+    rw e
+    (ap (λ k. getD (start ++ zeros (maxVariables - n (taskOf file))) k 0) behind
+    ∙ getD-append-add start (zeros (maxVariables - n (taskOf file))) (x - length start) 0
+    ∙ zero-at (maxVariables - n (taskOf file)) (x - length start))
