@@ -13,8 +13,11 @@ use Rattle.rules.specs.Limits.{maxLine}
 use Rattle.rules.specs.Answers.{demand, judge, inTurn}
 use Rattle.rules.specs.File.{byte}
 use Rattle.rules.specs.Text.{space}
-use Rattle.rules.specs.Rows.{wordsFor, overRow, storeAll}
+use Rattle.rules.specs.Problem.{Problem}
+use Rattle.rules.specs.Numbering.{N}
+use Rattle.rules.specs.Rows.{wordsFor, overRow, Rows, storeAll}
 use Rattle.rules.specs.Lines.{scanLine, awaitsNumbers, comment, status, numbers, neither, kindOf, kindVerdict, lineVerdict, phaseSaid, phaseAfter, named, Progress, rowsFit, progress, readLine}
+use Rattle.rules.specs.Output.{firstReading, clearedRows}
 use Rattle.rules.specs.declared.Refusal.{Refusal}
 use Rattle.rules.specs.declared.Refusal.the-variants.{Room, Grammar, OutOfPlace}
 use Rattle.rules.specs.declared.Verdict.{Verdict}
@@ -226,3 +229,9 @@ module _ (highest : ℕ) (g t : List ℕ) (r : Bool) (fit : r ≡ bothFit highes
       (ap₂ (leaves (LineAnswer.Next (record { highest = highest; phase = NoStatus })))
       (e ∙ ap (λ n. overRow (replicate n 0) g) need)
       (f ∙ ap (λ n. overRow (replicate n 0) t) need))
+
+-- with N of a problem it is the rules' own start
+pub start-is : (P : Problem) (rows : Rows) → rowsFit (N P) rows ≡ true
+    → _≡_ {A = Progress} (started (N P) rows) (record { answer = LineAnswer.Next (firstReading P); rows = clearedRows P rows })
+unfolding started clearedRows
+start-is P rows h = rw h
