@@ -5,10 +5,9 @@ use borrow.Fn.Kinds.{Dens, endedOf}
 use contract.Lifetimes.{Lfts}
 use denote.Ref.{now}
 use denote.Triple.Clauses.{AtExit}
-use Rattle.rules.specs.Lines.{Progress}
 use Rattle.rules.specs.declared.LineAnswer.{LineAnswer}
 use Rattle.output.specs.Line.{leaves}
-use Rattle.output.specs.Feeding.{Fed, feedLeaves}
+use Rattle.output.specs.Feeding.{feedLeaves}
 use Rattle.output.specs.declared.feeding.Feed.{Feed}
 use Rattle.output.proofs.start.Kinds as start-kinds
 use Rattle.output.proofs.start.Reads as start

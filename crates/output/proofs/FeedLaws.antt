@@ -1,29 +1,21 @@
 -- Laws of feeding: byte by byte, pieces do not matter, and the end comes to the rules' reading of the whole output.
 -- Assumes nothing.
-use mathlib.Core.Path.{_≡_, refl, sym, ap, ap₂, _∙_}
-use mathlib.Core.Logic.{⊎-elim}
-use mathlib.Core.Bool.{Bool, true, false, cond}
-use mathlib.Core.List.{List, [], _∷_, _++_, foldl, foldl-append, append-assoc}
-use Prim.Native.Nat.{ℕ, zero, suc, _+_, _-_, _≤_, _<_, min}
+use mathlib.Core.Path.{_≡_, sym, ap, _∙_}
+use mathlib.Core.List.{List}
+use Prim.Native.Nat.{ℕ, _+_, _≤_, _<_, min}
 use native.Mathlib.Omega.{arith}
 use native.Mathlib.Numerals.{add-one}
-use borrow.Author.Tests.{eq-eqb, ne-eqb, eqb-true, eqb-false, le-leb, lt-leb, lt-ltb, le-ltb}
-use lib.Dec.{eqb, leb, ltb}
-use lib.ListN.{length, getD, take, drop, set, length-append, length-take, length-set, drop-of-length-le}
-use lib.Seq.{drop-cons, take-all, length-take-le, take-suc-set}
-use Rattle.rules.specs.Limits.{maxLine}
-use Rattle.rules.specs.Answers.{demand, judge, inTurn}
+use borrow.Author.Tests.{eq-eqb, ne-eqb, le-leb, lt-leb, lt-ltb, le-ltb}
+use lib.ListN.{length, getD, take, drop, set, drop-of-length-le}
+use lib.Seq.{drop-cons, length-take-le}
 use Rattle.rules.specs.Text.{lf}
-use Rattle.rules.specs.Rows.{Rows}
-use Rattle.rules.specs.Lines.{onto, pieces, lineVerdict, rowsFit, Progress, progress, readLine}
-use Rattle.rules.specs.Output.{withoutEmptyLast, linesOf, readOn, readLines, readOutput}
+use Rattle.rules.specs.Lines.{progress, readLine}
 use Rattle.rules.specs.declared.Refusal.{Refusal}
 use Rattle.rules.specs.declared.Refusal.the-variants.{Room}
 use Rattle.rules.specs.declared.Reading.{Reading}
 use Rattle.rules.specs.declared.LineAnswer.{LineAnswer}
-use Rattle.rules.proofs.Bools.{either, below-or}
 use Rattle.output.specs.Line.{lent, leaves}
-use Rattle.output.specs.Feeding.{lineRoom, Fed, feedLeaves, fedByte, feedByte, feedAll, feedCall, finished, finish, finishCall}
+use Rattle.output.specs.Feeding.{lineRoom, Fed, feedLeaves, feedByte, feedAll, feedCall, finish, finishCall}
 use Rattle.output.specs.declared.feeding.Feed.{Feed}
 
 -- ---- one byte

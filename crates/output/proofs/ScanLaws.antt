@@ -1,33 +1,31 @@
 -- The trial of a line comes to the rules' own scan of it: where it goes through, both rows are those that store what the line names, and where
 -- it stops, the scan refuses for the same reason, and clearing the numbers before the stop gives back the row as it was.
 -- Assumes nothing.
-use mathlib.Core.Path.{_≡_, refl, sym, ap, ap₂, _∙_}
+use mathlib.Core.Path.{_≡_, refl, sym, ap, _∙_}
 use mathlib.Core.Logic.{⊎-elim}
 use mathlib.Core.Bool.{Bool, true, false, cond, not, _&&_, _||_, or-assoc, or-false}
 use mathlib.Core.List.{List, [], _∷_, _++_, tail, foldl-append}
 use Prim.Native.Char.{code}
-use Prim.Native.Nat.{ℕ, zero, suc, _+_, _-_, _*_, _/_, _≤_, _<_}
+use Prim.Native.Nat.{ℕ, suc, _+_, _-_, _/_, _≤_, _<_}
 use native.Mathlib.Omega.{arith}
-use native.Mathlib.Numerals.{add-one}
-use borrow.Author.Tests.{eq-eqb, ne-eqb, eqb-true, eqb-false, leb-true, leb-false, lt-ltb, le-ltb}
+use borrow.Author.Tests.{eq-eqb, ne-eqb, eqb-true, eqb-false, leb-true}
 use lib.Dec.{eqb, leb, ltb}
 use lib.ListN.{length, drop, length-drop}
 use Rattle.rules.specs.Counting.{first, any}
-use Rattle.rules.specs.Answers.{Rule, demand, judge}
+use Rattle.rules.specs.Answers.{judge}
 use Rattle.rules.specs.File.{byte}
 use Rattle.rules.specs.Text.{space}
-use Rattle.rules.specs.Families.{Literal, plus, minus}
+use Rattle.rules.specs.Families.{Literal}
 use Rattle.rules.specs.Rows.{wordBits, wordsFor, bitOfVariable, withVariable, Rows, store, storeAll}
 use Rattle.rules.specs.Lines.{onto, pieces, reach, isNumber, isNegative, variableOf, literalOf, names, Scan, wordRules, scanWord, scanPiece, goOn, scanPieces, scanStart, scanLine}
 use Rattle.rules.specs.declared.Refusal.{Refusal}
-use Rattle.rules.specs.declared.Refusal.the-variants.{Grammar, OutOfPlace, OverN, GivenBefore}
 use Rattle.rules.specs.declared.Verdict.{Verdict}
 use Rattle.rules.specs.declared.Verdict.the-variants.{Accepted, Refused}
-use Rattle.rules.proofs.Bools.{either, clash, or-right, or-cases, not-true}
+use Rattle.rules.proofs.Bools.{either, or-right, or-cases, not-true}
 use Rattle.rules.proofs.Judging.{judge-head, judge-tail}
 use Rattle.rows.proofs.Bits.{length-with, bit-written, bit-kept, with-restored, with-order}
 use Rattle.output.specs.Words.{piecesBehind}
-use Rattle.output.specs.Trial.{written, pieceScan, Trial, trialLeaves, trial, firstGap, numberPieces, rewritten}
+use Rattle.output.specs.Trial.{written, pieceScan, trialLeaves, trial, firstGap, numberPieces, rewritten}
 use Rattle.output.specs.declared.numbers.Tried.{Tried}
 use Rattle.output.proofs.WordLaws.{there}
 use Rattle.output.proofs.TrialLaws.{written-none, written-one, rewritten-next, rewritten-all}
@@ -343,7 +341,7 @@ clear-marked highest row scan p ok =
 abbrev Back : (highest : ℕ) → List ℕ → ℕ → Bool → List (List ℕ) → Type 0
 Back highest row gap closed ps =
     (why : Refusal) (stop : ℕ) → trial highest row gap closed ps .answer ≡ Tried.Stopped why stop
-    → (gap ≤ stop) × (stop < gap + total ps) × (rewritten false stop (trial highest row gap closed ps .row) gap ps ≡ row)
+    → (gap ≤ stop) × (rewritten false stop (trial highest row gap closed ps .row) gap ps ≡ row)
 
 back-none : (highest : ℕ) (row : List ℕ) (gap : ℕ) (closed : Bool) → Back highest row gap closed []
 unfolding trial
@@ -351,33 +349,29 @@ back-none highest row gap closed why stop e =
     let f : Tried.Through closed ≡ Tried.Stopped why stop = e in let z : _≡_ {A = ℕ} 0 1 = cc in absurd (omega arith)
 
 back-empty : (highest : ℕ) (row : List ℕ) (gap : ℕ) (closed : Bool) (ps : List (List ℕ)) → Back highest row (gap + 1) closed ps → Back highest row gap closed ([] ∷ ps)
-unfolding total
 back-empty highest row gap closed ps rest =
     rw (trial-empty highest row gap closed ps) (λ why stop e.
-    (omega (arith, rest why stop e .0), omega (arith, rest why stop e .1), rewritten-empty false stop (trial highest row (gap + 1) closed ps .row) gap ps ∙ rest why stop e .2))
+    (omega (arith, rest why stop e .0), rewritten-empty false stop (trial highest row (gap + 1) closed ps .row) gap ps ∙ rest why stop e .1))
 
 back-word : (highest : ℕ) (row : List ℕ) (gap : ℕ) (closed : Bool) (b : ℕ) (w : List ℕ) (ps : List (List ℕ))
     → Back highest (written true row (b ∷ w)) (gap + suc (length (b ∷ w))) (closed || eqb (variableOf (b ∷ w)) 0) ps
     → (judged : Verdict) → judge (wordRules highest row (record { verdict = Accepted; at = suc gap; closed = closed; named = [] }) (b ∷ w)) ≡ judged
     → Back highest row gap closed ((b ∷ w) ∷ ps)
-unfolding total
 back-word highest row gap closed b w ps rest Accepted ok =
     rw (trial-word-passed highest row gap closed b w ps ok) (λ why stop e.
     let p : List ℕ = b ∷ w in
     let end : List ℕ = trial highest (written true row p) (gap + suc (length p)) (closed || eqb (variableOf p) 0) ps .row in
-    let behind : gap + suc (length p) ≤ stop = rest why stop e .0 in
-    let before : stop < gap + suc (length p) + total ps = rest why stop e .1 in (
-      omega arith,
+    let behind : gap + suc (length p) ≤ stop = rest why stop e .0 in (
       omega arith,
       rewritten-next false stop end gap p ps (omega arith)
           ∙ clear-last stop end (gap + suc (length p)) p ps
-          ∙ ap (λ r. written false r p) (rest why stop e .2)
+          ∙ ap (λ r. written false r p) (rest why stop e .1)
           ∙ clear-marked highest row _ p ok,
     ))
 back-word highest row gap closed b w ps rest (Refused y) ok =
     rw (trial-word-refused highest row gap closed b w ps y ok) (λ why stop e.
     let here : gap ≡ stop = (let f : Tried.Stopped y gap ≡ Tried.Stopped why stop = e in cc) in
-    (omega arith, omega arith, rewritten-all false stop row gap ((b ∷ w) ∷ ps) (omega arith)))
+    (omega arith, rewritten-all false stop row gap ((b ∷ w) ∷ ps) (omega arith)))
 
 back : (highest : ℕ) (row : List ℕ) (gap : ℕ) (closed : Bool) (ps : List (List ℕ)) → Back highest row gap closed ps
 back highest row gap closed [] = back-none highest row gap closed
@@ -414,8 +408,5 @@ module _ (highest : ℕ) (rows : Rows) (line : List ℕ) (fit : wordsFor highest
       (omega (arith, total-line)))
 
   pub line-back : (why : Refusal) (stop : ℕ) → trial highest (rows .given) firstGap false (numberPieces line) .answer ≡ Tried.Stopped why stop
-      → (stop < length line)
-      × (rewritten false stop (trial highest (rows .given) firstGap false (numberPieces line) .row) firstGap (numberPieces line) ≡ rows .given)
-  line-back why stop e =
-      let b = back highest (rows .given) firstGap false (numberPieces line) why stop e in
-      (omega (arith, b .1, total-line), b .2)
+      → rewritten false stop (trial highest (rows .given) firstGap false (numberPieces line) .row) firstGap (numberPieces line) ≡ rows .given
+  line-back why stop e = back highest (rows .given) firstGap false (numberPieces line) why stop e .1

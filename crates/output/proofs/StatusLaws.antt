@@ -1,10 +1,9 @@
 -- Laws of comments and status lines: each answer by the rule that decides it.
 -- Assumes nothing.
 use mathlib.Core.Path.{_≡_, refl, sym, ap, ap₂, _∙_}
-use mathlib.Core.Logic.{⊎-elim}
-use mathlib.Core.Bool.{Bool, true, false, cond, not, _&&_, _||_}
+use mathlib.Core.Bool.{Bool, true, false, cond, not, _||_}
 use mathlib.Core.List.{List, [], _∷_}
-use Prim.Native.Nat.{ℕ, zero, suc, _+_, _-_, _≤_, _<_, max}
+use Prim.Native.Nat.{ℕ, suc, _+_, _≤_, _<_, max}
 use native.Mathlib.Omega.{arith}
 use native.Mathlib.Numerals.{add-one}
 use borrow.Author.Tests.{eq-eqb, ne-eqb}
@@ -14,12 +13,10 @@ use lib.Seq.{drop-cons}
 use Rattle.rules.proofs.Bools.{not-true, not-false}
 use Rattle.rules.specs.Answers.{demand, judge}
 use Rattle.rules.specs.File.{byte}
-use Rattle.rules.specs.Text.{space, ascii}
-use Rattle.rules.specs.Lines.{agree, same, saysSatisfiable, saysUnsatisfiable, saysUnknown, isStatus, statusReach, phaseSaid, awaitsStatus, Kind, comment, status, kindVerdict, phaseAfter, named, Progress, progress}
-use Rattle.rules.specs.declared.Refusal.{Refusal}
+use Rattle.rules.specs.Text.{space}
+use Rattle.rules.specs.Lines.{agree, same, saysSatisfiable, saysUnsatisfiable, saysUnknown, isStatus, statusReach, phaseSaid, awaitsStatus, comment, status, kindVerdict, phaseAfter, named, progress}
 use Rattle.rules.specs.declared.Refusal.the-variants.{Grammar, OutOfPlace}
-use Rattle.rules.specs.declared.Verdict.{Verdict}
-use Rattle.rules.specs.declared.Verdict.the-variants.{Accepted, Refused}
+use Rattle.rules.specs.declared.Verdict.the-variants.{Refused}
 use Rattle.rules.specs.declared.Phase.{Phase}
 use Rattle.rules.specs.declared.Phase.the-variants.{ModelOpen, SaidUnsatisfiable, SaidUnknown}
 use Rattle.rules.specs.declared.Reading.{Reading}

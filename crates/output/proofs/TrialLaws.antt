@@ -2,31 +2,31 @@
 -- Assumes nothing.
 use mathlib.Core.Path.{_≡_, refl, sym, ap, ap₂, _∙_}
 use mathlib.Core.Logic.{⊎-elim}
-use mathlib.Core.Bool.{Bool, true, false, cond, not, _&&_, _||_}
-use mathlib.Core.List.{List, [], _∷_, _++_}
-use Prim.Native.Nat.{ℕ, zero, suc, _+_, _-_, _*_, _≤_, _<_}
+use mathlib.Core.Bool.{Bool, true, false, not, _&&_, _||_}
+use mathlib.Core.List.{List, [], _∷_}
+use Prim.Native.Nat.{ℕ, suc, _+_, _-_, _≤_, _<_}
 use native.Mathlib.Omega.{arith}
-use borrow.Author.Tests.{eq-eqb, ne-eqb, eqb-true, eqb-false, le-leb, lt-leb, lt-ltb, le-ltb}
+use borrow.Author.Tests.{eq-eqb, ne-eqb, le-leb, lt-leb, lt-ltb, le-ltb}
 use mir.Syntax.{w64}
 use mir.Val.{Fits}
-use lib.Dec.{eqb, leb, ltb}
+use lib.Dec.{eqb, leb}
 use lib.ListN.{length, getD, take, drop, length-take, length-drop, drop-of-length-le}
 use lib.Seq.{drop-cons, drop-drop}
 use native.Mathlib.Numerals.{add-one}
 use Rattle.rules.specs.Counting.{first, any}
-use Rattle.rules.specs.Limits.{maxDigits, maxLine}
-use Rattle.rules.specs.Answers.{Rule, demand, judge}
+use Rattle.rules.specs.Limits.{maxLine}
+use Rattle.rules.specs.Answers.{demand, judge}
 use Rattle.rules.specs.Text.{space}
 use Rattle.rules.specs.Rows.{bitOfVariable, withVariable}
-use Rattle.rules.specs.Lines.{reach, isNumber, isNegative, variableOf, literalOf, names, Scan, wordRules, scanWord, scanPiece}
+use Rattle.rules.specs.Lines.{reach, isNumber, isNegative, variableOf, names, Scan, wordRules, scanWord, scanPiece}
 use Rattle.rules.specs.declared.Refusal.{Refusal}
 use Rattle.rules.specs.declared.Refusal.the-variants.{Grammar, OutOfPlace, OverN, GivenBefore}
 use Rattle.rules.specs.declared.Verdict.{Verdict}
 use Rattle.rules.specs.declared.Verdict.the-variants.{Accepted, Refused}
-use Rattle.rules.proofs.Bools.{either, clash, or-right}
+use Rattle.rules.proofs.Bools.{either, or-right}
 use Rattle.rules.proofs.Judging.{judge-nil, judge-refused, judge-passed}
 use Rattle.output.specs.Words.{lengthUntil, piecesBehind, EndsAt, wordOf}
-use Rattle.output.specs.Trial.{written, pieceScan, PieceTrial, pieceLeaves, pieceTrial, tryPiece, Trial, trialLeaves, onward, trial, firstGap, numberPieces, rewritten}
+use Rattle.output.specs.Trial.{written, pieceScan, PieceTrial, pieceLeaves, pieceTrial, tryPiece, Trial, trialLeaves, trial, firstGap, numberPieces, rewritten}
 use Rattle.output.specs.declared.words.Word.{Word}
 use Rattle.output.specs.declared.words.Word.the-variants.{Number, Broken}
 use Rattle.output.specs.declared.numbers.Piece.{Piece}

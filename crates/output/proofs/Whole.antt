@@ -1,19 +1,19 @@
 -- An output that is fed in pieces, cut anywhere, comes to the rules' reading of the whole.
 -- Assumes nothing.
-use mathlib.Core.Path.{_≡_, refl, sym, ap, ap₂, _∙_}
+use mathlib.Core.Path.{_≡_, refl, sym, ap, _∙_}
 use mathlib.Core.Logic.{⊎-elim}
-use mathlib.Core.Bool.{Bool, true, false, cond}
+use mathlib.Core.Bool.{cond}
 use mathlib.Core.List.{List, [], _∷_, _++_, foldl, foldl-append, append-assoc, append-nil}
-use Prim.Native.Nat.{ℕ, zero, suc, _+_, _-_, _≤_, _<_, min}
+use Prim.Native.Nat.{ℕ, _+_, _≤_, _<_, min}
 use native.Mathlib.Omega.{arith}
 use native.Mathlib.Numerals.{add-one}
 use borrow.Author.Tests.{eq-eqb, ne-eqb, eqb-true, eqb-false, le-leb, lt-leb, lt-ltb, le-ltb}
-use lib.Dec.{eqb, leb, ltb}
-use lib.ListN.{length, take, drop, set, length-append, length-take, length-set}
+use lib.Dec.{eqb}
+use lib.ListN.{length, take, set, length-append, length-take, length-set}
 use lib.Seq.{take-all, take-suc-set, take-append-le}
 use Rattle.rules.specs.Counting.{joined}
 use Rattle.rules.specs.Limits.{maxLine}
-use Rattle.rules.specs.Answers.{demand, judge, inTurn}
+use Rattle.rules.specs.Answers.{judge}
 use Rattle.rules.specs.Text.{lf}
 use Rattle.rules.specs.Rows.{Rows}
 use Rattle.rules.specs.Lines.{onto, pieces, lineVerdict, rowsFit, Progress, progress, readLine}
@@ -23,7 +23,6 @@ use Rattle.rules.specs.declared.Refusal.the-variants.{Room, Grammar}
 use Rattle.rules.specs.declared.Reading.{Reading}
 use Rattle.rules.specs.declared.LineAnswer.{LineAnswer}
 use Rattle.rules.proofs.Bools.{either, below-or}
-use Rattle.output.specs.Words.{lengthUntil, piecesBehind}
 use Rattle.output.specs.Feeding.{lineRoom, Fed, fedByte, feedByte, feedAll, feedCall, finished, finish, finishCall}
 use Rattle.output.proofs.WordLaws.{pieces-cut}
 

@@ -2,27 +2,26 @@
 -- Assumes nothing.
 use mathlib.Core.Path.{_≡_, refl, sym, ap, ap₂, _∙_}
 use mathlib.Core.Logic.{⊎-elim}
-use mathlib.Core.Bool.{Bool, true, false, cond, not, _&&_}
+use mathlib.Core.Bool.{Bool, true, false, cond, not}
 use mathlib.Core.List.{List, [], _∷_}
-use Prim.Native.Nat.{ℕ, zero, suc, _+_, _-_, _*_, _^_, _≤_, _<_, min}
+use Prim.Native.Nat.{ℕ, suc, _+_, _-_, _*_, _^_, _≤_, _<_}
 use native.Mathlib.Omega.{arith}
 use native.Mathlib.Numerals.{add-one}
 use native.Mathlib.Nat.{pow-suc, pow-le-pow-right}
 use borrow.Author.Tests.{eq-eqb, ne-eqb, eqb-true, eqb-false, le-leb, lt-leb, lt-ltb, le-ltb}
-use lib.Dec.{eqb, leb, ltb, lit≤}
+use lib.Dec.{eqb, leb, lit≤}
 use mir.Syntax.{w64}
 use mir.Val.{Fits}
-use lib.ListN.{length, getD, take, drop, length-drop, drop-of-length-le, List·getD-eq-default}
-use lib.Seq.{drop-cons, take-all, drop-length}
+use lib.ListN.{length, take, drop, length-drop, drop-of-length-le, List·getD-eq-default}
+use lib.Seq.{drop-cons, take-all}
 use Rattle.rules.specs.Counting.{first}
 use Rattle.rules.specs.Limits.{maxDigits}
 use Rattle.rules.specs.File.{byte}
 use Rattle.rules.specs.Text.{space, dash, digit0}
 use Rattle.rules.specs.Lines.{onto, pieces, isDigit, isNegative, signBytes, digits, reach, isNumber, valueFrom, variableOf}
 use Rattle.rules.proofs.Bools.{either, clash, below-or, below-suc}
-use Rattle.rules.proofs.Counting.{first-le, first-at, first-none, first-is}
+use Rattle.rules.proofs.Counting.{first-at, first-none, first-is}
 use Rattle.output.specs.Words.{lengthUntil, piecesBehind, EndsAt, digitRun, wordOf}
-use Rattle.output.specs.declared.words.Word.{Word}
 use Rattle.output.specs.declared.words.Word.the-variants.{Number, Broken}
 
 -- ---- where a word ends

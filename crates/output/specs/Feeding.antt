@@ -1,8 +1,8 @@
 -- A whole output, fed in pieces: lines are read as they end, and what there is of the next one is held in lent bytes, one more than a line may
 -- have at most.
 -- Assumes nothing.
-use Prim.Native.Nat.{ℕ, suc, _+_, min}
-use mathlib.Core.Bool.{Bool, cond}
+use Prim.Native.Nat.{ℕ, _+_, min}
+use mathlib.Core.Bool.{cond}
 use mathlib.Core.List.{List, foldl}
 use lib.Dec.{eqb, leb, ltb}
 use lib.ListN.{length, take, set}
@@ -12,7 +12,7 @@ use Rattle.rules.specs.Rows.{Rows}
 use Rattle.rules.specs.Lines.{Progress, readLine}
 use Rattle.rules.specs.declared.Refusal.the-variants.{Room}
 use Rattle.rules.specs.declared.LineAnswer.{LineAnswer}
-use Rattle.output.specs.Line.{lent, leaves}
+use Rattle.output.specs.Line.{leaves}
 use Rattle.output.specs.declared.feeding.Feed.{Feed}
 
 -- a line that is too long is told by one byte more than it may have

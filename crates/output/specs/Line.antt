@@ -1,8 +1,9 @@
 -- What a call leaves, its answer and the two lent rows; how a reading starts, and what a line of each kind comes to.
 -- Assumes nothing.
-use mathlib.Core.Bool.{cond}
+use mathlib.Core.Bool.{Bool, cond, _&&_}
 use mathlib.Core.List.{List, []}
 use Prim.Native.Nat.{ℕ}
+use lib.Dec.{leb}
 use lib.ListN.{replicate}
 use Rattle.rules.specs.Rows.{Rows, wordsFor, overRow}
 use Rattle.rules.specs.Lines.{Kind, kindVerdict, phaseAfter, named, Progress, rowsFit, progress}
@@ -16,6 +17,10 @@ lent given isTrue = record { given = given; isTrue = isTrue }
 
 abbrev pub leaves : LineAnswer → (given isTrue : List ℕ) → Progress
 leaves answer given isTrue = record { answer = answer; rows = lent given isTrue }
+
+-- rows of these lengths have the words that so many variables need
+unfoldable pub bothFit : (highest given isTrue : ℕ) → Bool
+bothFit highest given isTrue = leb (wordsFor highest) given && leb (wordsFor highest) isTrue
 
 -- the first reading state, and the words needed 0 in both rows, if they are there
 unfoldable pub started : (highest : ℕ) → Rows → Progress

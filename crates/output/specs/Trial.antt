@@ -6,11 +6,9 @@ use mathlib.Core.Bool.{Bool, true, cond, not, _&&_}
 use mathlib.Core.List.{List, [], _∷_}
 use lib.Dec.{eqb, ltb}
 use lib.ListN.{length, drop}
-use Rattle.rules.specs.Answers.{judge}
 use Rattle.rules.specs.Text.{space}
 use Rattle.rules.specs.Rows.{withVariable}
 use Rattle.rules.specs.Lines.{isNumber, isNegative, variableOf, Scan, scanPiece}
-use Rattle.rules.specs.declared.Refusal.{Refusal}
 use Rattle.rules.specs.declared.Verdict.{Verdict}
 use Rattle.rules.specs.declared.Verdict.the-variants.{Accepted, Refused}
 use Rattle.output.specs.Words.{piecesBehind}

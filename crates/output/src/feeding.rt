@@ -6,7 +6,7 @@ ghost use mathlib.Core.Path.{_≡_};
 ghost use Prim.Native.Nat.{_≤_, min};
 ghost use lib.ListN.{length};
 ghost use Rattle.rules.specs.declared.LineAnswer.the-variants.{Next};
-ghost use Rattle.output.specs.Line.{lent, leaves};
+ghost use Rattle.output.specs.Line.{leaves};
 ghost use Rattle.output.specs.Feeding.{lineRoom, feedLeaves, feedByte, feedCall, finishCall};
 
 // The room that a line needs: one byte more than it may have.

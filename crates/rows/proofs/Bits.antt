@@ -7,7 +7,7 @@ use mathlib.Core.List.{List, _++_}
 use Prim.Native.Nat.{ℕ, zero, suc, _+_, _-_, _*_, _/_, _%_, _^_, _≤_, _<_}
 use native.Mathlib.Omega.{arith}
 use native.Mathlib.Numerals.{one-add}
-use native.Mathlib.Nat.{pow-suc, mul-assoc, mod-lt, one-mul, zero-mul, zero-div, le-trans, mul-le-mul-right, div-mul-le-self, mod-le}
+use native.Mathlib.Nat.{pow-suc, mul-assoc, one-mul, zero-mul, zero-div, le-trans, mul-le-mul-right, div-mul-le-self, mod-le}
 use borrow.Author.Fill.{fill-more}
 use borrow.Author.Tests.{eq-eqb, ne-eqb, eqb-true, eqb-false}
 use lib.Dec.{eqb}

@@ -2,26 +2,26 @@
 -- Assumes nothing.
 use mathlib.Core.Path.{_≡_, refl, sym, ap, ap₂, _∙_}
 use mathlib.Core.Logic.{⊎-elim}
-use mathlib.Core.Bool.{Bool, true, false, cond}
+use mathlib.Core.Bool.{true, false, cond}
 use mathlib.Core.List.{List}
-use Prim.Native.Nat.{ℕ, zero, suc, _+_, _-_, _*_, _/_, _%_, _^_, _≤_, _<_, min}
+use Prim.Native.Nat.{ℕ, zero, suc, _+_, _-_, _/_, _%_, _^_, _≤_, _<_, min}
 use native.Mathlib.Omega.{arith}
-use native.Mathlib.Numerals.{add-one, one-add}
+use native.Mathlib.Numerals.{one-add}
 use native.Mathlib.Nat.{mod-one, mod-lt, add-suc, add-zero, zero-div}
-use borrow.Author.Tests.{eq-eqb, ne-eqb, eqb-true, eqb-false}
+use borrow.Author.Tests.{eqb-true, eqb-false}
 use mir.Syntax.{w64}
 use mir.Val.{Fits}
 use lib.Dec.{eqb}
 use lib.Bits.{bitAnd, and-mask}
-use lib.Count.{ones, ones-cat, ones-le, under, trailingZeros, trailing-le}
+use lib.Count.{ones, ones-cat, ones-le, trailingZeros, trailing-le}
 use lib.Pow.{pow-pos, shr-shr, mod-pow-add, ones-split, high, ones-lt}
 use lib.ListN.{length, getD, List·getD-eq-default}
-use Rattle.rules.specs.Counting.{sumTo, first}
+use Rattle.rules.specs.Counting.{sumTo}
 use Rattle.rules.specs.Rows.{wordBits, bitOf, bitOfVariable}
-use Rattle.rules.proofs.Bools.{either, below-or, below-suc}
+use Rattle.rules.proofs.Bools.{either, below-or}
 use Rattle.rules.proofs.Counting.{sumTo-ext, first-is, first-none}
 use Rattle.rows.specs.Stretch.{setBelow, LowestSet, countSet, firstSet}
-use Rattle.rows.proofs.Bits.{digit, digit-zero, digit-suc, digit-bit, zero-digit}
+use Rattle.rows.proofs.Bits.{digit, digit-zero, digit-suc, digit-bit}
 
 -- ---- the ones of a masked word
 

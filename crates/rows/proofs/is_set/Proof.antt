@@ -1,7 +1,6 @@
 -- `is_set` meets its contract: behind the row no bit is set.
 -- Assumes nothing.
 use borrow.Author.Needs.{needs}
-use Rattle.rules.specs.Rows.{bitOfVariable}
 use Rattle.rows.proofs.Bits.{bit-in, bit-behind}
 use Rattle.rows.proofs.is_set.Statement.{statement}
 use Rattle.rows.proofs.is_set.Tie as tie
