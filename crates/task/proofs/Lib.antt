@@ -2,5 +2,4 @@
 pub mod Rows
 pub mod Bytes
 pub mod Asking
-pub mod StartValues
 pub mod OneAnswer

@@ -7,7 +7,6 @@ use Rattle.task.specs.declared.numbering.ValuePlace.{ValuePlace}
 use Rattle.task.specs.declared.numbering.ActionNumber.{ActionNumber}
 use Rattle.task.specs.declared.numbering.FormulaNumber.{FormulaNumber}
 use Rattle.task.specs.declared.numbering.NumberRead.{NumberRead}
-use Rattle.task.specs.declared.state.State.{State}
 use Rattle.task.proofs.index.offset.Reads as offset
 use Rattle.task.proofs.index.value_pairs_before.Reads as value-pairs-before
 use Rattle.task.proofs.index.values.Reads as values
@@ -35,7 +34,6 @@ use Rattle.task.proofs.numbering.value_number.Reads as value-number
 use Rattle.task.proofs.numbering.action_number.Reads as action-number
 use Rattle.task.proofs.filling.fill_index.Reads as fill-index
 use Rattle.task.proofs.numbering.nth_action.Reads as nth-action
-use Rattle.task.proofs.state.start_state.Reads as start-state
 
 same-place : (r s : ValuePlace) (x v : ℕ) → (r .0 ≡ x) × (r .1 ≡ v) → (s .0 ≡ x) × (s .1 ≡ v) → r ≡ s
 same-place r s x v p q = λ i. record { 0 = (p .0 ∙ sym (q .0)) i; 1 = (p .1 ∙ sym (q .1)) i }
@@ -127,8 +125,3 @@ one-action-number κs a r s x p q = same-number r s _ p q
 
 pub one-checked-number : (κs : _) (a : _) (r s : NumberRead) (x : _) → checked-number.Post κs a r x → checked-number.Post κs a s x → r ≡ s
 one-checked-number κs a r s x p q = p ∙ sym q
-
--- ---- the state
-
-pub one-start-state : (κs : _) (a : _) (r s : State) (x : _) → start-state.Post κs a r x → start-state.Post κs a s x → r ≡ s
-one-start-state κs a r s x p q = λ i. record { values = (p ∙ sym q) i }

@@ -1,4 +1,4 @@
-// What is asked of an accepted file without judging it again: its index, sizes, pairs and places, the numbering, and the state record. The
+// What is asked of an accepted file without judging it again: its index, sizes, pairs and places, and the numbering. The
 // reader's own modules can be named through this crate.
 pub use reader::contents;
 pub use reader::file;
@@ -8,4 +8,3 @@ pub mod asked;
 pub mod filling;
 pub mod index;
 pub mod numbering;
-pub mod state;
