@@ -1,0 +1,2 @@
+-- Laws that close the functions' proofs, one for each way out, over plain lists and numbers.
+pub mod Finding
