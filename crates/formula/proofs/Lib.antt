@@ -1,2 +1,4 @@
 -- Laws that close the functions' proofs, one for each way out, over plain lists and numbers.
 pub mod Finding
+pub mod Counted
+pub mod ByPlace

@@ -25,15 +25,15 @@ stepsOf k f = getD (1 ∷ 1 ∷ suc k ∷ suc k ∷ k ∷ k ∷ k ∷ k ∷ []) 
 unfoldable pub widthOf : Task → ℕ → ℕ
 widthOf T f =
     getD (
-      n T
-      ∷ length (T .goal)
-      ∷ n T
-      ∷ valuePairsBefore T (n T)
-      ∷ preconditionsBefore T (A T)
-      ∷ effectsBefore T (A T)
-      ∷ S T
-      ∷ pairsBelow (A T)
-      ∷ []
+    n T
+    ∷ length (T .goal)
+    ∷ n T
+    ∷ valuePairsBefore T (n T)
+    ∷ preconditionsBefore T (A T)
+    ∷ effectsBefore T (A T)
+    ∷ S T
+    ∷ pairsBelow (A T)
+    ∷ []
     ) f 0
 
 -- how many clauses the family has

@@ -2,4 +2,4 @@
 pub mod Placed
 pub mod Parts
 pub mod InFamily
-pub mod Written
+pub mod Front

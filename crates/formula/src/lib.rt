@@ -3,3 +3,4 @@ pub mod families;
 pub mod place;
 pub mod placing;
 pub mod search;
+pub mod written;

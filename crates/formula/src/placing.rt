@@ -52,10 +52,7 @@ fn two_values(file: &[u8], index: &[usize], horizon: usize, s: usize, q: usize) 
     ensures { λ r. ⌜ PlacedIn (now (file .entry)) horizon 3 s q r ⌝ }
 {
     let x = variable_of_pair(file, index, q);
-    let pair = pair_of(
-        size(file, x),
-        q - value_pairs_before(file, index, x),
-    );
+    let pair = pair_of(size(file, x), q - value_pairs_before(file, index, x));
     Place::TwoValues(s, x, pair.first, pair.second)
 }
 
@@ -96,14 +93,7 @@ fn two_actions(file: &[u8], index: &[usize], horizon: usize, s: usize, q: usize)
 }
 
 // Clause q of step s of family f.
-fn place_in(
-    file: &[u8],
-    index: &[usize],
-    horizon: usize,
-    f: usize,
-    s: usize,
-    q: usize,
-) -> Place
+fn place_in(file: &[u8], index: &[usize], horizon: usize, f: usize, s: usize, q: usize) -> Place
     requires { ⌜ Indexed (now file) (now index) × (f < familyCount) × (s < stepsOf horizon f) × (q < widthOf (taskOf (now file)) f) ⌝ }
     ensures { λ r. ⌜ PlacedIn (now (file .entry)) horizon f s q r ⌝ }
 {
