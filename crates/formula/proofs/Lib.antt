@@ -2,3 +2,7 @@
 pub mod Finding
 pub mod Counted
 pub mod ByPlace
+pub mod Writing
+pub mod Numbered
+pub mod Supported
+pub mod Spelled
