@@ -6,3 +6,4 @@ pub mod Writing
 pub mod Numbered
 pub mod Supported
 pub mod Spelled
+pub mod Answered

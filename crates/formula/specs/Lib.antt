@@ -3,3 +3,4 @@ pub mod Placed
 pub mod Parts
 pub mod InFamily
 pub mod Front
+pub mod Said

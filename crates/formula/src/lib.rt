@@ -1,4 +1,5 @@
 // The formula of an accepted file at a horizon: the place of clause c in its family, N and C, and clause c as literals.
+pub mod calls;
 pub mod clauses;
 pub mod families;
 pub mod numbers;
