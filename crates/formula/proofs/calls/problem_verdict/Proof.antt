@@ -1,0 +1,17 @@
+-- `calls::problem_verdict` meets its contract.
+-- Assumes nothing.
+use borrow.Author.Needs.{needs}
+use Rattle.formula.proofs.Answered.{file-wrong, horizon-wrong, problem-right}
+use Rattle.formula.proofs.calls.problem_verdict.Statement.{statement}
+use Rattle.formula.proofs.calls.problem_verdict.Tie as tie
+
+pub problem-verdict-spec : {M : Type 1} → statement M
+problem-verdict-spec =
+    tie.close
+    (tie.spec
+    (λ c κs. search needs)
+    (λ c. search needs)
+    (λ c. search needs)
+    (λ c. search (needs, file-wrong))
+    (λ c. search (needs, horizon-wrong))
+    (λ c. search (needs, problem-right)))
