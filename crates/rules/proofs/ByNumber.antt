@@ -13,7 +13,7 @@ use Rattle.rules.specs.Problem.{Problem, problem}
 use Rattle.rules.specs.Numbering.{valueNumber, actionNumber}
 use Rattle.rules.specs.Families.{plus, minus, pairNumber, supporters, family1, family2, family3, family4, family5, family6, family7, family8, families, formula, C, clause}
 use Rattle.rules.specs.Counts.{pairsBelow, countTable}
-pub use Rattle.rules.specs.Counts.{clausesBefore}
+unfoldable pub use Rattle.rules.specs.Counts.{clausesBefore}
 use Rattle.rules.proofs.Counting.{sumTo-ext, length-table, getD-table}
 use Rattle.rules.proofs.Counts.{length-pairs, count1, count2, count3, count4, count5, count6, count7, count8, C-is}
 use Rattle.rules.proofs.Places.{within-rows, within-steps, getD-joined, getD-times, getD-steps}
