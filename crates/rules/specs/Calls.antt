@@ -18,12 +18,13 @@ use Rattle.rules.specs.Rows.{Rows}
 use Rattle.rules.specs.Truth.{modelIn}
 use Rattle.rules.specs.Walk.{scheduleRules}
 use Rattle.rules.specs.Readings.{scheduleOf, rowsOf}
-use Rattle.rules.specs.Lines.{rowsFit}
-use Rattle.rules.specs.Output.{clearedRows, outcome}
+use Rattle.rules.specs.Lines.{rowsFit, Progress}
+use Rattle.rules.specs.Output.{firstReading, clearedRows, outcome}
 use Rattle.rules.specs.declared.Refusal.the-variants.{Horizon, ClauseNumber, Room}
 use Rattle.rules.specs.declared.Verdict.{Verdict}
 use Rattle.rules.specs.declared.Verdict.the-variants.{Accepted, Refused}
 use Rattle.rules.specs.declared.Phase.{Phase}
+use Rattle.rules.specs.declared.LineAnswer.{LineAnswer}
 
 -- the problem that a file states at a horizon
 unfoldable pub problemOf : List ℕ → ℕ → Problem
@@ -100,8 +101,13 @@ linesAfter file k c room = lentAfter (clauseLineVerdict file k c (length room)) 
 unfoldable pub startVerdict : List ℕ → ℕ → Rows → Verdict
 startVerdict file k rows = judge (problemRules file k ++ (demand (rowsFit (N (problemOf file k)) rows) Room ∷ []))
 
-unfoldable pub startRows : List ℕ → ℕ → Rows → Rows
-startRows file k rows = rowsAfter (startVerdict file k rows) (clearedRows (problemOf file k) rows) rows
+-- the first reading state and cleared rows, or a refusal and the rows as found
+abbrev pub startedBy : Verdict → Problem → Rows → Progress
+startedBy Accepted P rows = record { answer = LineAnswer.Next (firstReading P); rows = clearedRows P rows }
+startedBy (Refused why) P rows = record { answer = LineAnswer.Refused why; rows = rows }
+
+unfoldable pub startReading : List ℕ → ℕ → Rows → Progress
+startReading file k rows = startedBy (startVerdict file k rows) (problemOf file k) rows
 
 -- 1 to 8, and 10 for both rows and k entries
 abbrev pub lentRules : List ℕ → ℕ → Rows → (entries : List ℕ) → List Rule

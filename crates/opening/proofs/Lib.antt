@@ -1,0 +1,3 @@
+-- What is proved of the start.
+pub mod Begun
+pub mod Decided
