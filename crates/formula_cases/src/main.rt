@@ -1,5 +1,5 @@
 // The folder example's formula, its counts and all its clauses, at horizons 0 to 3; the clause behind the last; horizons 64 and 65; lent
-// memory that is too short; files that are refused. After each call all lent words are shown, "?" for one as it was lent.
+// memory that is too short; files that are refused. After each call all lent words are shown, "?" for one as it was lent, and "beyond" for a number above 22.
 use formula::calls::CountsAnswer;
 use formula::calls::LiteralsAnswer;
 use rules::Refusal;
@@ -51,7 +51,7 @@ const ROOM: usize = 6;
 
 const AS_LENT: i32 = 99;
 
-// The numbers that have a text here; the first is minus the highest.
+// The numbers that are shown; the first is minus the highest.
 const HIGHEST: usize = 22;
 
 const NUMBERS: [i32; 45] = [
@@ -115,9 +115,13 @@ fn place_of(literal: i32) -> usize {
 }
 
 fn print_literal(literal: i32) {
+    if literal == AS_LENT {
+        io::write_all(1, b" ?");
+        return;
+    }
     let i = place_of(literal);
     if 45 <= i {
-        io::write_all(1, b" ?");
+        io::write_all(1, b" beyond");
         return;
     }
     if i < HIGHEST {
