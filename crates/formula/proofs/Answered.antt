@@ -95,7 +95,7 @@ module _ (file : List ℕ) (k : ℕ) where
         room-refuses : room < length (clause (problemOf file k) c) → clauseVerdict file k c room ≡ Refused Room
         room-refuses l = room-left ∙ judge-refused _ [] (lt-leb _ room l)
 
-        accepts : length (clause (problemOf file k) c) ≤ room → clauseVerdict file k c room ≡ Accepted
+        pub accepts : length (clause (problemOf file k) c) ≤ room → clauseVerdict file k c room ≡ Accepted
         accepts l = room-left ∙ judge-passed _ [] (le-leb _ room l) ∙ judge-nil
 
   -- a refusal by the verdict, in the answer and in lent memory

@@ -7,3 +7,5 @@ pub mod Numbered
 pub mod Supported
 pub mod Spelled
 pub mod Answered
+pub mod OneAnswer
+pub mod Demand
