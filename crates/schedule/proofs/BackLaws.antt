@@ -31,6 +31,7 @@ use Rattle.rules.proofs.Files.{accepted-well-formed}
 use Rattle.rules.proofs.Schedules.{carried-out}
 use Rattle.task.specs.Index.{Indexed, indexOf}
 use Rattle.task.specs.Numbers.{atAnyHorizon}
+use Rattle.schedule.specs.Checked.{checkedVerdict}
 use Rattle.schedule.specs.Written.{lent, fits, allSet, allTrueSet}
 use Rattle.schedule.proofs.BackBits.{all-given, all-true}
 
@@ -67,70 +68,118 @@ unfolding problemOf
 truth-written file index entries k words row row₁ row₂ ix c ew e₁ e₂ =
     e₂ ∙ rw (e₁, ew) (all-true (taskOf file) (accepted-well-formed file (ix .accepted)) k entries (c .entries-known) row)
 
--- ---- the verdict
+-- ---- the rules of a call in their order, whatever room it needs
+
+module _ (file : List ℕ) (k : ℕ) (entries : List ℕ) (room : Bool) where
+  abbrev inOrder : Verdict
+  inOrder = judge (problemRules file k ++ (demand room Room ∷ []) ++ scheduleRules (taskOf file) k entries)
+
+  -- from room on, and from the horizon on
+  abbrev roomRules : List Rule
+  roomRules = demand room Room ∷ scheduleRules (taskOf file) k entries
+
+  abbrev horizonRules : List Rule
+  horizonRules = demand (leb k maxHorizon) Horizon ∷ roomRules
+
+  in-turn : (v : Verdict) → v ≡ fileVerdict file → inOrder ≡ inTurn v (judge horizonRules)
+  unfolding problemRules fileVerdict
+  in-turn v e =
+      let h : List Rule = demand (leb k maxHorizon) Horizon ∷ [] in
+      let r : List Rule = demand room Room ∷ [] in
+      ap judge (append-assoc (fileRules file ++ h) r (scheduleRules (taskOf file) k entries) ∙ append-assoc (fileRules file) h roomRules)
+      ∙ judge-append (fileRules file) horizonRules
+      ∙ ap (λ u. inTurn u (judge horizonRules)) (sym e)
+
+  file-refuses : (v : Verdict) (why : Refusal) → v ≡ fileVerdict file → v ≡ Refused why → v ≡ inOrder
+  file-refuses v why e f = f ∙ sym (in-turn v e ∙ ap (λ u. inTurn u (judge horizonRules)) f)
+
+  module _ (v : Verdict) (e : v ≡ fileVerdict file) (f : v ≡ Accepted) where
+    from-horizon : inOrder ≡ judge horizonRules
+    from-horizon = in-turn v e ∙ ap (λ u. inTurn u (judge horizonRules)) f
+
+    horizon-refuses : maxHorizon < k → Refused Horizon ≡ inOrder
+    horizon-refuses l = sym (from-horizon ∙ judge-refused _ _ (lt-leb k maxHorizon l))
+
+    module _ (hk : k ≤ maxHorizon) where
+      from-room : inOrder ≡ judge roomRules
+      from-room = from-horizon ∙ judge-passed _ _ (le-leb k maxHorizon hk)
+
+      room-refuses : room ≡ false → Refused Room ≡ inOrder
+      room-refuses h = sym (from-room ∙ judge-refused _ _ h)
+
+      schedule-judges : room ≡ true → (w : Verdict) → w ≡ judge (scheduleRules (taskOf file) k entries) → w ≡ inOrder
+      schedule-judges h w ew = ew ∙ sym (from-room ∙ judge-passed _ _ h)
+
+-- ---- a schedule without rows
+
+module _ (file : List ℕ) (k : ℕ) (entries : List ℕ) (v : Verdict) (e : v ≡ fileVerdict file) where
+  pub checked-file : (why : Refusal) → v ≡ Refused why → v ≡ checkedVerdict file k entries
+  unfolding checkedVerdict
+  checked-file why f = file-refuses file k entries (leb k (length entries)) v why e f
+
+  module _ (f : v ≡ Accepted) where
+    pub checked-horizon : maxHorizon < k → Refused Horizon ≡ checkedVerdict file k entries
+    unfolding checkedVerdict
+    checked-horizon l = horizon-refuses file k entries (leb k (length entries)) v e f l
+
+    module _ (hk : k ≤ maxHorizon) where
+      pub checked-room : length entries < k → Refused Room ≡ checkedVerdict file k entries
+      unfolding checkedVerdict
+      checked-room l = room-refuses file k entries (leb k (length entries)) v e f hk (lt-leb k (length entries) l)
+
+      pub checked-schedule : k ≤ length entries → (w : Verdict) → w ≡ judge (scheduleRules (taskOf file) k entries) → w ≡ checkedVerdict file k entries
+      unfolding checkedVerdict
+      checked-schedule l w ew = schedule-judges file k entries (leb k (length entries)) v e f hk (le-leb k (length entries) l) w ew
+
+-- ---- the way back
 
 module _ (file : List ℕ) (k : ℕ) (entries given truth : List ℕ) where
   abbrev verdict : Verdict
   verdict = backVerdict file k entries (lent given truth)
+
+  abbrev room : Bool
+  room = rowsFit (N (problemOf file k)) (lent given truth) && leb k (length entries)
 
   -- a refusal leaves both rows as found
   refused-by : (why : Refusal) → Refused why ≡ verdict → (Refused why ≡ verdict) × (lent given truth ≡ backRows file k entries (lent given truth))
   unfolding backRows
   refused-by why e = (e, rw (← e))
 
-  -- the rules from room on, and from the horizon on
-  abbrev roomRules : List Rule
-  roomRules = demand (rowsFit (N (problemOf file k)) (lent given truth) && leb k (length entries)) Room ∷ scheduleRules (taskOf file) k entries
-
-  abbrev horizonRules : List Rule
-  horizonRules = demand (leb k maxHorizon) Horizon ∷ roomRules
-
-  in-turn : verdict ≡ inTurn (fileVerdict file) (judge horizonRules)
-  unfolding backVerdict problemRules fileVerdict
-  in-turn =
-      let h : List Rule = demand (leb k maxHorizon) Horizon ∷ [] in
-      let r : List Rule = demand (rowsFit (N (problemOf file k)) (lent given truth) && leb k (length entries)) Room ∷ [] in
-      ap judge (append-assoc (fileRules file ++ h) r (scheduleRules (taskOf file) k entries) ∙ append-assoc (fileRules file) h roomRules)
-      ∙ judge-append (fileRules file) horizonRules
-
   pub file-wrong : (v : Verdict) (why : Refusal) → v ≡ fileVerdict file → v ≡ Refused why
       → (v ≡ verdict) × (lent given truth ≡ backRows file k entries (lent given truth))
-  file-wrong v why e f = rw f (refused-by why (sym (in-turn ∙ ap (λ u. inTurn u (judge horizonRules)) (sym e ∙ f))))
-
-  module _ (ok : fileVerdict file ≡ Accepted) where
-    from-horizon : verdict ≡ judge horizonRules
-    from-horizon = in-turn ∙ ap (λ u. inTurn u (judge horizonRules)) ok
-
-    module _ (hk : k ≤ maxHorizon) where
-      from-room : verdict ≡ judge roomRules
-      from-room = from-horizon ∙ judge-passed _ _ (le-leb k maxHorizon hk)
-
-      module _ (b : Bool) (eb : b ≡ fits (wordsFor (N (problemOf file k))) (length given) (length truth) k (length entries)) where
-        all-fit : b ≡ (rowsFit (N (problemOf file k)) (lent given truth) && leb k (length entries))
-        unfolding rowsFit fits
-        all-fit = eb
-
-        pub too-little : not b ≡ true → (Refused Room ≡ verdict) × (lent given truth ≡ backRows file k entries (lent given truth))
-        too-little f = refused-by Room (sym (from-room ∙ judge-refused _ _ (sym all-fit ∙ not-true b f)))
-
-        module _ (fb : not b ≡ false) (v : Verdict) (ev : v ≡ judge (scheduleRules (taskOf file) k entries)) where
-          from-schedule : verdict ≡ v
-          from-schedule = from-room ∙ judge-passed _ _ (sym all-fit ∙ not-false b fb) ∙ sym ev
-
-          pub schedule-wrong : (why : Refusal) → v ≡ Refused why → (v ≡ verdict) × (lent given truth ≡ backRows file k entries (lent given truth))
-          schedule-wrong why f = rw f (refused-by why (sym (from-schedule ∙ f)))
-
-          pub schedule-right : (given′ truth′ : List ℕ) → v ≡ Accepted → given′ ≡ overRow (packed (replicate (N (problemOf file k)) true)) given
-              → truth′ ≡ overRow (packed (assignmentOf (problemOf file k) entries)) truth
-              → (Accepted ≡ verdict) × (lent given′ truth′ ≡ backRows file k entries (lent given truth))
-          unfolding backRows rowsOf
-          schedule-right given′ truth′ f eg et =
-              let e : verdict ≡ Accepted = from-schedule ∙ f in
-              (sym e, rw (e, eg, et))
+  unfolding backVerdict
+  file-wrong v why e f = rw f (refused-by why (sym f ∙ file-refuses file k entries room v why e f))
 
   pub horizon-wrong : (v : Verdict) → v ≡ fileVerdict file → v ≡ Accepted → maxHorizon < k
       → (Refused Horizon ≡ verdict) × (lent given truth ≡ backRows file k entries (lent given truth))
-  horizon-wrong v e f l = refused-by Horizon (sym (from-horizon (sym e ∙ f) ∙ judge-refused _ _ (lt-leb k maxHorizon l)))
+  unfolding backVerdict
+  horizon-wrong v e f l = refused-by Horizon (horizon-refuses file k entries room v e f l)
+
+  module _ (ok : fileVerdict file ≡ Accepted) (hk : k ≤ maxHorizon) (b : Bool)
+      (eb : b ≡ fits (wordsFor (N (problemOf file k))) (length given) (length truth) k (length entries)) where
+    is-room : room ≡ b
+    unfolding rowsFit fits
+    is-room = sym eb
+
+    pub too-little : not b ≡ true → (Refused Room ≡ verdict) × (lent given truth ≡ backRows file k entries (lent given truth))
+    unfolding backVerdict
+    too-little f = refused-by Room (room-refuses file k entries room (fileVerdict file) refl ok hk (is-room ∙ not-true b f))
+
+    module _ (fb : not b ≡ false) (v : Verdict) (ev : v ≡ judge (scheduleRules (taskOf file) k entries)) where
+      judged : v ≡ verdict
+      unfolding backVerdict
+      judged = schedule-judges file k entries room (fileVerdict file) refl ok hk (is-room ∙ not-false b fb) v ev
+
+      pub schedule-wrong : (why : Refusal) → v ≡ Refused why → (v ≡ verdict) × (lent given truth ≡ backRows file k entries (lent given truth))
+      schedule-wrong why f = rw f (refused-by why (sym f ∙ judged))
+
+      pub schedule-right : (given′ truth′ : List ℕ) → v ≡ Accepted → given′ ≡ overRow (packed (replicate (N (problemOf file k)) true)) given
+          → truth′ ≡ overRow (packed (assignmentOf (problemOf file k) entries)) truth
+          → (Accepted ≡ verdict) × (lent given′ truth′ ≡ backRows file k entries (lent given truth))
+      unfolding backRows rowsOf
+      schedule-right given′ truth′ f eg et =
+          let e : verdict ≡ Accepted = sym judged ∙ f in
+          (sym e, rw (e, eg, et))
 
 -- ---- what fits
 

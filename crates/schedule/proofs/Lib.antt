@@ -5,3 +5,4 @@ pub mod BackBits
 pub mod WalkLaws
 pub mod WriteLaws
 pub mod BackLaws
+pub mod OneAnswer

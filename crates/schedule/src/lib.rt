@@ -9,9 +9,29 @@ use task::filling::fill_index;
 use task::index::INDEX_LENGTH;
 ghost use mathlib.Core.Path.{_≡_};
 ghost use Rattle.rules.specs.Calls.{backVerdict, backRows};
+ghost use Rattle.schedule.specs.Checked.{checkedVerdict};
 ghost use Rattle.schedule.specs.Written.{lent};
 
 const MAX_HORIZON: usize = 64;
+
+// Whether a schedule is good, without rows.
+pub fn schedule_checked(file: &[u8], horizon: usize, entries: &[u32]) -> Verdict
+    ensures { λ r. ⌜ r ≡ checkedVerdict (now (file .entry)) horizon (now (entries .entry)) ⌝ }
+{
+    let verdict = task::file::file_verdict(file);
+    let Verdict::Accepted = verdict else {
+        return verdict;
+    };
+    if MAX_HORIZON < horizon {
+        return Verdict::Refused(Refusal::Horizon);
+    }
+    if entries.len() < horizon {
+        return Verdict::Refused(Refusal::Room);
+    }
+    let mut index = [0usize; INDEX_LENGTH];
+    fill_index(file, &mut index);
+    walking::schedule_verdict(file, &index, horizon, entries)
+}
 
 // The way back: a good schedule becomes both rows, every needed word written; a refusal leaves all as found.
 pub fn way_back(
