@@ -1,12 +1,11 @@
 -- The bits that the way back writes are those of the schedule's assignment, and of all N variables given.
 -- Assumes nothing.
 use mathlib.Core.Path.{_≡_, refl, sym, ap, _∙_}
-use mathlib.Core.Bool.{Bool, true, false, cond}
+use mathlib.Core.Bool.{Bool, true, false}
 use mathlib.Core.List.{List, [], _∷_}
 use Prim.Native.Nat.{ℕ, zero, suc, _+_, _-_, _*_, _≤_, _<_}
 use native.Mathlib.Omega.{arith}
 use native.Mathlib.Nat.{suc-mul, mul-le-mul-right}
-use native.Mathlib.Numerals.{add-one}
 use borrow.Author.Tests.{eq-eqb, ne-eqb, eqb-true}
 use lib.Dec.{eqb}
 use lib.ListN.{length, getD, replicate, length-replicate, getD-replicate}
@@ -15,12 +14,11 @@ use Rattle.rules.specs.Task.{Task, n, d, off, S, A}
 use Rattle.rules.specs.Problem.{Problem, problem}
 use Rattle.rules.specs.Numbering.{stride, valueNumber, actionNumber, N}
 use Rattle.rules.specs.Rows.{wordsFor, withVariable, packed, overRow}
-use Rattle.rules.specs.Walk.{State, entry, stateAt, CarriedOut}
+use Rattle.rules.specs.Walk.{entry, stateAt}
 use Rattle.rules.specs.Readings.{valueBits, actionBits, assignmentOf}
 use Rattle.rules.proofs.Bools.{same-truth}
 use Rattle.rules.proofs.Counting.{table-getD, forEach-ext, sumTo-part}
 use Rattle.rules.proofs.Valid.{WellFormed}
-use Rattle.rules.proofs.Numbering.{AtValue, AtAction}
 use Rattle.rules.proofs.LaidOut.{valuesAt, stepAt, layout, layout-value, layout-action}
 use Rattle.rules.proofs.Schedules.{entryMoves, length-assignment}
 use Rattle.walk.proofs.Tasks.{Whole, state-whole}

@@ -1,9 +1,9 @@
 -- The ways out of the way back: refusals leave both rows as found, acceptance writes both.
 -- Assumes nothing.
-use mathlib.Core.Path.{_≡_, refl, sym, ap, ap₂, _∙_}
+use mathlib.Core.Path.{_≡_, refl, sym, ap, _∙_}
 use mathlib.Core.Bool.{Bool, true, false, not, _&&_}
 use mathlib.Core.List.{List, [], _∷_, _++_, append-assoc}
-use Prim.Native.Nat.{ℕ, suc, _+_, _*_, _≤_, _<_}
+use Prim.Native.Nat.{ℕ, _+_, _*_, _≤_, _<_}
 use native.Mathlib.Omega.{arith}
 use native.Mathlib.Nat.{mul-le-mul}
 use borrow.Author.Tests.{le-leb, lt-leb, leb-true}
@@ -13,10 +13,10 @@ use lib.Dec.{leb}
 use lib.ListN.{length, replicate}
 use Rattle.rules.specs.Limits.{maxHorizon, maxValues, maxActions}
 use Rattle.rules.specs.Answers.{Rule, demand, judge, inTurn}
-use Rattle.rules.specs.Task.{Task, S, A}
+use Rattle.rules.specs.Task.{Task, S}
 use Rattle.rules.specs.Numbering.{stride, N}
 use Rattle.rules.specs.File.{taskOf, fileRules, fileVerdict}
-use Rattle.rules.specs.Rows.{Rows, wordsFor, packed, overRow}
+use Rattle.rules.specs.Rows.{wordsFor, packed, overRow}
 use Rattle.rules.specs.Lines.{rowsFit}
 use Rattle.rules.specs.Walk.{CarriedOut, scheduleRules}
 use Rattle.rules.specs.Readings.{assignmentOf, rowsOf}
@@ -26,7 +26,7 @@ use Rattle.rules.specs.declared.Refusal.the-variants.{Horizon, Room}
 use Rattle.rules.specs.declared.Verdict.{Verdict}
 use Rattle.rules.specs.declared.Verdict.the-variants.{Accepted, Refused}
 use Rattle.rules.proofs.Bools.{and-left, and-right, not-true, not-false}
-use Rattle.rules.proofs.Judging.{judge-refused, judge-passed, judge-nil, judge-append}
+use Rattle.rules.proofs.Judging.{judge-refused, judge-passed, judge-append}
 use Rattle.rules.proofs.Files.{accepted-well-formed}
 use Rattle.rules.proofs.Schedules.{carried-out}
 use Rattle.task.specs.Index.{Indexed, indexOf}

@@ -1,9 +1,9 @@
 -- Bits written one by one: writing a variable's bit in a row of packed bits is packing the bits with that one written.
 -- Assumes nothing.
-use mathlib.Core.Path.{_≡_, refl, sym, ap, ap₂, _∙_}
+use mathlib.Core.Path.{_≡_, sym, ap, _∙_}
 use mathlib.Core.Logic.{⊎-elim}
 use mathlib.Core.Bool.{Bool, true, false, cond}
-use mathlib.Core.List.{List, [], _∷_, _++_}
+use mathlib.Core.List.{List, _++_}
 use Prim.Native.Nat.{ℕ, zero, suc, _+_, _-_, _*_, _/_, _%_, _^_, _≤_, _<_}
 use native.Mathlib.Omega.{arith}
 use native.Mathlib.Nat.{zero-mul, one-mul}
@@ -11,7 +11,7 @@ use borrow.Author.Tests.{eqb-true, eqb-false}
 use lib.Dec.{eqb}
 use lib.ListN.{length, getD, set, drop, replicate, length-set, length-replicate, getD-replicate, List·getD-append, List·getD-eq-default}
 use lib.Seq.{ext-getD, set-append-left, getD-set-same, getD-set-other}
-use Rattle.rules.specs.Counting.{sumTo, table}
+use Rattle.rules.specs.Counting.{sumTo}
 use Rattle.rules.specs.Rows.{wordBits, wordsFor, bitOf, withBit, withVariable, packed, overRow}
 use Rattle.rules.proofs.Bools.{either, below-or}
 use Rattle.rules.proofs.Counting.{sumTo-ext, sumTo-const, length-table, getD-table}

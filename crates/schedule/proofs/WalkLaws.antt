@@ -12,23 +12,21 @@ use lib.ListN.{length, take, drop, length-drop}
 use lib.Seq.{take-all, drop-drop}
 use denote.Ref.{RefT, now}
 use Rattle.rules.specs.Counting.{first, every}
-use Rattle.rules.specs.Limits.{contentsRows, maxActions}
 use Rattle.rules.specs.Answers.{judge}
-use Rattle.rules.specs.Task.{Task, n, A, pair, action}
-use Rattle.rules.specs.File.{bodyStart, bodyLength, body, rests, actionIn, contentsVerdict, taskOf, fileVerdict}
+use Rattle.rules.specs.Task.{Task, A, pair, action}
+use Rattle.rules.specs.File.{bodyStart, bodyLength, body, rests, actionIn, taskOf, fileVerdict}
 use Rattle.rules.specs.Walk.{State, startState, holds, setPairs, entry, entryApplies, afterEntry, stateAt, scheduleRules}
 use Rattle.rules.specs.declared.Refusal.the-variants.{EntryOverA, DoesNotApply, GoalUnmet}
 use Rattle.rules.specs.declared.Verdict.the-variants.{Accepted, Refused}
-use Rattle.rules.proofs.Bools.{not-false}
-use Rattle.rules.proofs.Counting.{first-le, first-before, none-at}
+use Rattle.rules.proofs.Counting.{first-le, first-before}
 use Rattle.rules.proofs.Judging.{judge-nil}
 use Rattle.rules.proofs.Loops.{none-yet, none-more, found-at, none-at-all, judge-found, judge-none}
 use Rattle.rules.proofs.Valid.{WellFormed}
-use Rattle.rules.proofs.Contents.{Contents, contents-accepted, length-body}
+use Rattle.rules.proofs.Contents.{Contents, length-body}
 use Rattle.rules.proofs.Files.{accepted-file, accepted-well-formed}
 use Rattle.rules.proofs.Rests.{action-read, rest-place}
 use Rattle.task.specs.Stretches.{Stretch}
-use Rattle.task.specs.Index.{restAt, actionPlace, Indexed}
+use Rattle.task.specs.Index.{restAt, actionPlace}
 use Rattle.schedule.specs.Over.{over}
 use Rattle.walk.specs.Lent.{startValues, goalIn, firstUnmet}
 use Rattle.walk.proofs.Tasks.{start-is, applies-is, moved-is, unmet-is}
@@ -38,9 +36,6 @@ use Rattle.walk.proofs.Tasks.{start-is, applies-is, moved-is, unmet-is}
 module _ (file : List ℕ) (ok : fileVerdict file ≡ Accepted) where
   contents : Contents file
   contents = accepted-file file ok .contents
-
-  pub contents-ok : contentsVerdict file ≡ Accepted
-  contents-ok = contents-accepted file contents
 
   fine : WellFormed (taskOf file)
   fine = accepted-well-formed file ok
@@ -74,9 +69,6 @@ unfolding taskOf
 started file part from values ok r e =
     let well : WellFormed (taskOf (now file)) = fine (now file) ok in
     e ∙ ap startValues (r .holds) ∙ start-is (taskOf (now file)) (well .start-whole) (well .variables-few)
-
-pub action-few : (file index : List ℕ) (a : ℕ) → Indexed file index → a < A (taskOf file) → a ≤ maxActions
-action-few file index a ix h = omega (arith, accepted-well-formed file (ix .accepted) .actions-few)
 
 -- ---- one entry; s is the part of its action
 

@@ -1,7 +1,8 @@
 -- `action_part` meets its contract.
 -- Assumes nothing.
 use borrow.Author.Needs.{needs}
-use Rattle.schedule.proofs.WalkLaws.{action-few, place-within, part-is}
+use Rattle.task.proofs.Asking.{action-few}
+use Rattle.schedule.proofs.WalkLaws.{place-within, part-is}
 use Rattle.schedule.proofs.walking.action_part.Statement.{statement}
 use Rattle.schedule.proofs.walking.action_part.Tie as tie
 

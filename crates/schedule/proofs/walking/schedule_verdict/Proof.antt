@@ -3,7 +3,8 @@
 use Prim.Native.Nat.{_≤_, _-_}
 use borrow.Author.Needs.{needs}
 use Rattle.rules.specs.File.{taskOf}
-use Rattle.schedule.proofs.WalkLaws.{CameTo, contents-ok, came-none, came-more, over-refused, entry-known, stuck-refused, goal-is, goal-refused, goal-met}
+use Rattle.task.proofs.Bytes.{contents-ok}
+use Rattle.schedule.proofs.WalkLaws.{CameTo, came-none, came-more, over-refused, entry-known, stuck-refused, goal-is, goal-refused, goal-met}
 use Rattle.schedule.proofs.walking.schedule_verdict.Statement.{statement}
 use Rattle.schedule.proofs.walking.schedule_verdict.Tie as tie
 

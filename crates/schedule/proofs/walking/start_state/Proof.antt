@@ -1,7 +1,8 @@
 -- `start_state` meets its contract.
 -- Assumes nothing.
 use borrow.Author.Needs.{needs}
-use Rattle.schedule.proofs.WalkLaws.{contents-ok, started}
+use Rattle.task.proofs.Bytes.{contents-ok}
+use Rattle.schedule.proofs.WalkLaws.{started}
 use Rattle.schedule.proofs.walking.start_state.Statement.{statement}
 use Rattle.schedule.proofs.walking.start_state.Tie as tie
 
