@@ -6,3 +6,4 @@ pub mod WalkLaws
 pub mod WriteLaws
 pub mod BackLaws
 pub mod OneAnswer
+pub mod Answered
