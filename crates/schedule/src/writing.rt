@@ -34,6 +34,7 @@ pub(crate) fn set_all(row: &mut [u64], m: usize)
     }
 }
 
+// One value of a variable at a step.
 fn set_value(file: &[u8], index: &[usize], step: usize, x: usize, v: usize, row: &mut [u64])
     requires { ⌜ Indexed (now file) (now index) × (step ≤ maxHorizon) × (x < n (taskOf (now file))) × (v < d (taskOf (now file)) x) ⌝ }
     ensures { λ _. ⌜ now (row .exit) ≡ withVariable (now (row .entry)) (valueNumber (atAnyHorizon (now (file .entry))) step x v) true ⌝ }
