@@ -5,13 +5,12 @@ use mathlib.Core.Bool.{Bool, true, false, not, _&&_}
 use mathlib.Core.List.{List, [], _∷_, _++_, append-assoc}
 use Prim.Native.Nat.{ℕ, _+_, _*_, _≤_, _<_}
 use native.Mathlib.Omega.{arith}
-use native.Mathlib.Nat.{mul-le-mul}
 use borrow.Author.Tests.{le-leb, lt-leb, leb-true}
 use mir.Syntax.{w64}
 use mir.Val.{Fits}
 use lib.Dec.{leb}
 use lib.ListN.{length, replicate}
-use Rattle.rules.specs.Limits.{maxHorizon, maxValues, maxActions}
+use Rattle.rules.specs.Limits.{maxHorizon}
 use Rattle.rules.specs.Answers.{Rule, demand, judge, inTurn}
 use Rattle.rules.specs.Task.{Task, S}
 use Rattle.rules.specs.Numbering.{stride, N}
@@ -31,25 +30,16 @@ use Rattle.rules.proofs.Files.{accepted-well-formed}
 use Rattle.rules.proofs.Schedules.{carried-out}
 use Rattle.task.specs.Index.{Indexed, indexOf}
 use Rattle.task.specs.Numbers.{atAnyHorizon}
+use Rattle.task.proofs.Asking.{stride-few, number-fits₁}
 use Rattle.schedule.specs.Checked.{checkedVerdict}
 use Rattle.schedule.specs.Written.{lent, fits, allSet, allTrueSet}
 use Rattle.schedule.proofs.BackBits.{all-given, all-true}
 
 -- ---- N
 
-module _ (file index : List ℕ) (ix : Indexed file index) (k w : ℕ) (hk : k ≤ maxHorizon) (ew : w ≡ stride (taskOf file)) where
-  wide : w ≤ maxValues + maxActions
-  wide =
-      let fine = accepted-well-formed file (ix .accepted) in
-      omega (arith, fine .values-few, fine .actions-few)
-
-  pub steps-fit : Fits w64 (k * w)
-  steps-fit = record { fits = omega (arith, mul-le-mul hk wide) }
-
-  pub highest-fits : (v : ℕ) → v ≡ S (taskOf file) → Fits w64 (k * w + v)
-  highest-fits v ev =
-      let fine = accepted-well-formed file (ix .accepted) in
-      record { fits = omega (arith, mul-le-mul hk wide, fine .values-few) }
+pub highest-fits : (file index : List ℕ) (k w v : ℕ) → Indexed file index → k ≤ maxHorizon → w ≡ stride (taskOf file) → v ≡ S (taskOf file)
+    → Fits w64 (k * w + v)
+highest-fits file index k w v ix hk ew ev = number-fits₁ k w v hk (stride-few file index ix w ew) (omega arith)
 
 pub highest-is : (file : List ℕ) (k w v : ℕ) → w ≡ stride (taskOf file) → v ≡ S (taskOf file) → k * w + v ≡ N (problemOf file k)
 unfolding problemOf N
