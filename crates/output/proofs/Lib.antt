@@ -6,3 +6,4 @@ pub mod StatusLaws
 pub mod LineLaws
 pub mod FeedLaws
 pub mod Whole
+pub mod Decided

@@ -1,2 +1,3 @@
 -- What is proved of rows of bits.
 pub mod Bits
+pub mod Decided
