@@ -27,10 +27,10 @@ digit w j = w / 2 ^ j % 2
 abbrev pub one : Bool → ℕ
 one b = cond b 1 0
 
-digit-zero : (w : ℕ) → digit w 0 ≡ w % 2
+pub digit-zero : (w : ℕ) → digit w 0 ≡ w % 2
 digit-zero w = omega arith
 
-digit-suc : (w j : ℕ) → digit w (suc j) ≡ digit (w / 2) j
+pub digit-suc : (w j : ℕ) → digit w (suc j) ≡ digit (w / 2) j
 digit-suc w j = ap (λ k. w / 2 ^ k % 2) (sym (one-add j)) ∙ ap (λ q. q % 2) (sym (shr-shr w 1 j))
 
 -- a digit's worth is part of the word
@@ -65,10 +65,10 @@ digit-kept w (suc i) (suc j) b h =
     ∙ digit-kept (w / 2) i j b (λ e. h (ap suc e))
     ∙ sym (digit-suc w i)
 
-zero-digit : (j : ℕ) → digit 0 j ≡ 0
+pub zero-digit : (j : ℕ) → digit 0 j ≡ 0
 zero-digit j = omega (arith, zero-div (2 ^ j))
 
-digit-bit : (w j : ℕ) (b : Bool) → digit w j ≡ one b → bitOf w j ≡ b
+pub digit-bit : (w j : ℕ) (b : Bool) → digit w j ≡ one b → bitOf w j ≡ b
 digit-bit w j true e = eq-eqb _ _ e
 digit-bit w j false e = ne-eqb (digit w j) 1 (λ f. omega arith)
 

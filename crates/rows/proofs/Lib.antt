@@ -1,3 +1,4 @@
 -- What is proved of rows of bits.
 pub mod Bits
+pub mod Words
 pub mod Decided

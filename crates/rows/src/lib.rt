@@ -1,8 +1,11 @@
 // Rows of bits in lent words: 64 to a word from the lowest bit up, variable 1 first.
 ghost use mathlib.Core.Path.{_≡_};
-ghost use Prim.Native.Nat.{_<_, _≤_};
+ghost use Prim.Native.Nat.{_+_, _<_, _≤_};
 ghost use lib.ListN.{length, replicate};
+ghost use Rattle.rules.specs.Counting.{first};
 ghost use Rattle.rules.specs.Rows.{wordBits, wordsFor, withBit, bitOfVariable, withVariable, overRow};
+ghost use Rattle.rows.specs.Bits.{setFrom, notSet};
+ghost use Rattle.rows.specs.Bound.{mostVariables};
 
 const WORD_BITS: usize = 64;
 
@@ -60,4 +63,55 @@ pub fn clear(row: &mut [u64], words: usize)
         row[i] = 0;
         i += 1;
     }
+}
+
+// The first of m variables, from one on, whose bit is set; m where none is. The zeros below a word's lowest bit are passed in one step.
+pub fn first_set(row: &[u64], from: usize, m: usize) -> usize
+    requires { ⌜ (0 < from) × (from + m < mostVariables) ⌝ }
+    ensures { λ r. ⌜ r ≡ first m (setFrom (now (row .entry)) from) ⌝ }
+{
+    let mut i = 0;
+    while i < m {
+        let place = from - 1 + i;
+        let at = place / WORD_BITS;
+        if row.len() <= at {
+            return m;
+        }
+        let bit = place % WORD_BITS;
+        let part = row[at] >> bit;
+        if part != 0 {
+            let found = i + u64::trailing_zeros(part) as usize;
+            if found < m {
+                return found;
+            }
+            return m;
+        }
+        i += WORD_BITS - bit;
+    }
+    m
+}
+
+// The first of the variables 1 to m whose bit is not set; m where all are. Words with all bits set are passed in one step.
+pub fn first_unset(row: &[u64], m: usize) -> usize
+    requires { ⌜ m < mostVariables ⌝ }
+    ensures { λ r. ⌜ r ≡ first m (notSet (now (row .entry))) ⌝ }
+{
+    let mut i = 0;
+    while i < m {
+        let at = i / WORD_BITS;
+        if row.len() <= at {
+            return i;
+        }
+        if i % WORD_BITS == 0 {
+            if row[at] == u64::MAX {
+                i += WORD_BITS;
+                continue;
+            }
+        }
+        if !is_set(row, i + 1) {
+            return i;
+        }
+        i += 1;
+    }
+    m
 }
