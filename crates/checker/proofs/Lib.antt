@@ -1,0 +1,5 @@
+-- Laws that close the checker's proofs, one for each way out, over plain lists and numbers.
+pub mod Asked
+pub mod Widths
+pub mod FirstTwo
+pub mod Clauses

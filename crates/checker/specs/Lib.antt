@@ -1,0 +1,2 @@
+-- What the checker's contracts cite beside the rules.
+pub mod Order
