@@ -3,3 +3,4 @@ pub mod Asked
 pub mod Widths
 pub mod FirstTwo
 pub mod Clauses
+pub mod ItemLaws

@@ -50,6 +50,18 @@ steps-moves k (suc (suc (suc (suc (suc (suc zero)))))) h l = refl
 steps-moves k (suc (suc (suc (suc (suc (suc (suc zero))))))) h l = refl
 steps-moves k (suc (suc (suc (suc (suc (suc (suc (suc f)))))))) h l = absurd (omega arith)
 
+pub steps-most : (k f : ℕ) → stepsOf k f ≤ suc k
+unfolding stepsOf
+steps-most k zero = omega arith
+steps-most k (suc zero) = omega arith
+steps-most k (suc (suc zero)) = omega arith
+steps-most k (suc (suc (suc zero))) = omega arith
+steps-most k (suc (suc (suc (suc zero)))) = omega arith
+steps-most k (suc (suc (suc (suc (suc zero))))) = omega arith
+steps-most k (suc (suc (suc (suc (suc (suc zero)))))) = omega arith
+steps-most k (suc (suc (suc (suc (suc (suc (suc zero))))))) = omega arith
+steps-most k (suc (suc (suc (suc (suc (suc (suc (suc f)))))))) = omega arith
+
 -- ---- items and clauses, by the family's number
 
 module _ (T : Task) where
