@@ -21,7 +21,7 @@ use Rattle.rules.specs.File.{taskOf}
 use Rattle.rules.proofs.Bools.{not-true, not-false, and-both, below-or}
 use Rattle.rules.proofs.Counting.{first-le, first-before, first-at, first-is, first-none, sumTo-part}
 use Rattle.rules.proofs.Lowest.{chunk-passed, chunk-found}
-use Rattle.rules.proofs.Valid.{WellFormed, Inside}
+use Rattle.rules.proofs.Valid.{WellFormed, Inside, ActionFine}
 use Rattle.rules.proofs.Files.{accepted-well-formed}
 use Rattle.rules.proofs.Pairs.{PairAt}
 use Rattle.task.specs.Index.{Indexed}
@@ -139,36 +139,22 @@ module _ (file index row : List ℕ) (k : ℕ) where
           let z : m ≡ length (action T i .effects) = h ∙ ap (λ a. length (action T a .effects)) e in
           record { fits = omega (arith, few effectsHold s i at c) }
 
-      pub precondition-there : (p o t : ℕ) → p ≡ i → o ≡ i → m ≡ length (action T p .preconditions) → t < m → t < length (action T o .preconditions)
-      precondition-there p o t e g h l = rw g (rw e at (rw h at l))
+      pub precondition-there : (p t : ℕ) → p ≡ i → m ≡ length (action T p .preconditions) → t < m → t < length (action T i .preconditions)
+      precondition-there p t e h l = rw e at (rw h at l)
 
-      pub effect-there : (p o t : ℕ) → p ≡ i → o ≡ i → m ≡ length (action T p .effects) → t < m → t < length (action T o .effects)
-      effect-there p o t e g h l = rw g (rw e at (rw h at l))
+      pub effect-there : (p t : ℕ) → p ≡ i → m ≡ length (action T p .effects) → t < m → t < length (action T i .effects)
+      effect-there p t e h l = rw e at (rw h at l)
 
-    precondition-inside : (o t : ℕ) → Come file index row k preconditionsHold s i at → o ≡ i → t < length (action T o .preconditions) → Inside T (pair (action T o .preconditions) t)
-    precondition-inside o t c e l =
-        fine preconditionsHold s i at c .actions-fine o (precondition-item o c e) .preconditions-fine .inside-each t l
+    pub precondition-action : Come file index row k preconditionsHold s i at → i < A T
+    unfolding itemsOf
+    precondition-action c = c .item
 
-    effect-inside : (o t : ℕ) → Come file index row k effectsHold s i at → o ≡ i → t < length (action T o .effects) → Inside T (pair (action T o .effects) t)
-    effect-inside o t c e l =
-        fine effectsHold s i at c .actions-fine o (effect-item o c e) .effects-fine .inside-each t l
+    pub effect-action : Come file index row k effectsHold s i at → i < A T
+    unfolding itemsOf
+    effect-action c = c .item
 
-    module _ (p o t m x : ℕ) (e : p ≡ i) (g : o ≡ i) (l : t < m) where
-      module _ (h : m ≡ length (action T p .preconditions)) where
-        pub precondition-variable : Come file index row k preconditionsHold s i at → x ≡ pair (action T o .preconditions) t .variable → x < n T
-        precondition-variable c u = omega (arith, precondition-inside o t c g (precondition-there m p o t e g h l) .variable-below)
-
-        pub precondition-value : (v : ℕ) → Come file index row k preconditionsHold s i at → x ≡ pair (action T o .preconditions) t .variable
-            → v ≡ pair (action T o .preconditions) t .value → v < d T x
-        precondition-value v c u w = rw (u, w) (precondition-inside o t c g (precondition-there m p o t e g h l) .value-below)
-
-      module _ (h : m ≡ length (action T p .effects)) where
-        pub effect-variable : Come file index row k effectsHold s i at → x ≡ pair (action T o .effects) t .variable → x < n T
-        effect-variable c u = omega (arith, effect-inside o t c g (effect-there m p o t e g h l) .variable-below)
-
-        pub effect-value : (v : ℕ) → Come file index row k effectsHold s i at → x ≡ pair (action T o .effects) t .variable
-            → v ≡ pair (action T o .effects) t .value → v < d T x
-        effect-value v c u w = rw (u, w) (effect-inside o t c g (effect-there m p o t e g h l) .value-below)
+    pub effect-next : Come file index row k effectsHold s i at → Fits w64 (s + 1)
+    effect-next c = record { fits = omega (arith, effect-step c) }
 
   -- ---- the numbers of a step, one behind the other
 
@@ -338,18 +324,13 @@ module _ (file index row : List ℕ) (k s a at : ℕ) (c : Come file index row k
   pub precondition-all : (t : ℕ) → first (at + t) (isFalse file k row) ≡ at + t → t ≤ m → m ≤ t → at + m ≡ first (at + count4) (isFalse file k row)
   precondition-all t none l u = pairs-all (isFalse file k row) at t none m count4 l u precondition-count
 
-  module _ (z : not acting ≡ false) (t : ℕ) (none : first (at + t) (isFalse file k row) ≡ at + t) (l : t < m) (o x v : ℕ) (w : o ≡ a)
-      (hx : x ≡ pair (action (taskOf file) o .preconditions) t .variable) (hv : v ≡ pair (action (taskOf file) o .preconditions) t .value)
-      (b : Bool) (hb : b ≡ holdsAt file row s x v) where
+  module _ (z : not acting ≡ false) (t : ℕ) (none : first (at + t) (isFalse file k row) ≡ at + t) (l : t < m) (b : Bool)
+      (hb : b ≡ holdsAt file row s (pair (action (taskOf file) a .preconditions) t .variable) (pair (action (taskOf file) a .preconditions) t .value)) where
     precondition-is : isFalse file k row (at + t) ≡ not b
     precondition-is =
         let there : t < count4 = omega (arith, precondition-count) in
-        let bit : holdsAt file row s (pair (action (taskOf file) a .preconditions) t .variable) (pair (action (taskOf file) a .preconditions) t .value) ≡ b =
-        ap (λ a. holdsAt file row s (pair (action (taskOf file) a .preconditions) t .variable) (pair (action (taskOf file) a .preconditions) t .value)) (sym w)
-        ∙ ap₂ (holdsAt file row s) (sym hx) (sym hv)
-        ∙ sym hb in
         false-precondition file row k s a at t (c .step) (c .item) (c .reached .is) there
-        ∙ ap₂ (λ a b. a && not b) (sym g ∙ not-false acting z) bit
+        ∙ ap₂ (λ a b. a && not b) (sym g ∙ not-false acting z) (sym hb)
 
     pub precondition-fails : not b ≡ true → at + t ≡ first (at + count4) (isFalse file k row)
     precondition-fails f = pairs-found (isFalse file k row) at t none count4 (omega (arith, precondition-count)) (precondition-is ∙ f)
@@ -377,23 +358,54 @@ module _ (file index row : List ℕ) (k s a at : ℕ) (c : Come file index row k
   pub effect-all : (t : ℕ) → first (at + t) (isFalse file k row) ≡ at + t → t ≤ m → m ≤ t → at + m ≡ first (at + count5) (isFalse file k row)
   effect-all t none l u = pairs-all (isFalse file k row) at t none m count5 l u effect-count
 
-  module _ (z : not acting ≡ false) (t : ℕ) (none : first (at + t) (isFalse file k row) ≡ at + t) (l : t < m) (o x v : ℕ) (w : o ≡ a)
-      (hx : x ≡ pair (action (taskOf file) o .effects) t .variable) (hv : v ≡ pair (action (taskOf file) o .effects) t .value)
-      (b : Bool) (hb : b ≡ holdsAt file row (s + 1) x v) where
+  module _ (z : not acting ≡ false) (t : ℕ) (none : first (at + t) (isFalse file k row) ≡ at + t) (l : t < m) (b : Bool)
+      (hb : b ≡ holdsAt file row (s + 1) (pair (action (taskOf file) a .effects) t .variable) (pair (action (taskOf file) a .effects) t .value)) where
     effect-is : isFalse file k row (at + t) ≡ not b
     effect-is =
         let there : t < count5 = omega (arith, effect-count) in
-        let step : suc s ≡ s + 1 = omega arith in
-        let bit : holdsAt file row (suc s) (pair (action (taskOf file) a .effects) t .variable) (pair (action (taskOf file) a .effects) t .value) ≡ b =
-        ap (λ t′. holdsAt file row t′ (pair (action (taskOf file) a .effects) t .variable) (pair (action (taskOf file) a .effects) t .value)) step
-        ∙ ap (λ a. holdsAt file row (s + 1) (pair (action (taskOf file) a .effects) t .variable) (pair (action (taskOf file) a .effects) t .value)) (sym w)
-        ∙ ap₂ (holdsAt file row (s + 1)) (sym hx) (sym hv)
-        ∙ sym hb in
         false-effect file row k s a at t (c .step) (c .item) (c .reached .is) there
-        ∙ ap₂ (λ a b. a && not b) (sym g ∙ not-false acting z) bit
+        ∙ ap₂ (λ a b. a && not b) (sym g ∙ not-false acting z) (ap (λ u. holdsAt file row u (pair (action (taskOf file) a .effects) t .variable) (pair (action (taskOf file) a .effects) t .value)) (sym (add-one s)) ∙ sym hb)
 
     pub effect-fails : not b ≡ true → at + t ≡ first (at + count5) (isFalse file k row)
     effect-fails f = pairs-found (isFalse file k row) at t none count5 (omega (arith, effect-count)) (effect-is ∙ f)
 
     pub effect-again : not b ≡ false → first (at + (t + 1)) (isFalse file k row) ≡ at + (t + 1)
     effect-again f = pairs-more (isFalse file k row) at t none (effect-is ∙ f)
+
+-- ---- one pair of an action
+
+module _ (file index : List ℕ) (ix : Indexed file index) (a i o x v : ℕ) (h : a < A (taskOf file)) (e : o ≡ a) where
+  fine-action : ActionFine (taskOf file) (action (taskOf file) o)
+  fine-action = accepted-well-formed file (ix .accepted) .actions-fine o (omega arith)
+
+  module _ (l : i < length (action (taskOf file) a .preconditions)) where
+    pub precondition-asked : i < length (action (taskOf file) o .preconditions)
+    precondition-asked = rw e l
+
+    pub precondition-variable : x ≡ pair (action (taskOf file) o .preconditions) i .variable → x < n (taskOf file)
+    precondition-variable u = omega (arith, fine-action .preconditions-fine .inside-each i precondition-asked .variable-below)
+
+    pub precondition-value : x ≡ pair (action (taskOf file) o .preconditions) i .variable → v ≡ pair (action (taskOf file) o .preconditions) i .value → v < d (taskOf file) x
+    precondition-value u w = rw (u, w) (fine-action .preconditions-fine .inside-each i precondition-asked .value-below)
+
+    pub precondition-read : (row : List ℕ) (s : ℕ) (b : Bool) → x ≡ pair (action (taskOf file) o .preconditions) i .variable → v ≡ pair (action (taskOf file) o .preconditions) i .value
+        → b ≡ holdsAt file row s x v → b ≡ holdsAt file row s (pair (action (taskOf file) a .preconditions) i .variable) (pair (action (taskOf file) a .preconditions) i .value)
+    precondition-read row s b u w g =
+        g ∙ ap₂ (holdsAt file row s) u w
+        ∙ ap (λ a. holdsAt file row s (pair (action (taskOf file) a .preconditions) i .variable) (pair (action (taskOf file) a .preconditions) i .value)) e
+
+  module _ (l : i < length (action (taskOf file) a .effects)) where
+    pub effect-asked : i < length (action (taskOf file) o .effects)
+    effect-asked = rw e l
+
+    pub effect-variable : x ≡ pair (action (taskOf file) o .effects) i .variable → x < n (taskOf file)
+    effect-variable u = omega (arith, fine-action .effects-fine .inside-each i effect-asked .variable-below)
+
+    pub effect-value : x ≡ pair (action (taskOf file) o .effects) i .variable → v ≡ pair (action (taskOf file) o .effects) i .value → v < d (taskOf file) x
+    effect-value u w = rw (u, w) (fine-action .effects-fine .inside-each i effect-asked .value-below)
+
+    pub effect-read : (row : List ℕ) (s : ℕ) (b : Bool) → x ≡ pair (action (taskOf file) o .effects) i .variable → v ≡ pair (action (taskOf file) o .effects) i .value
+        → b ≡ holdsAt file row s x v → b ≡ holdsAt file row s (pair (action (taskOf file) a .effects) i .variable) (pair (action (taskOf file) a .effects) i .value)
+    effect-read row s b u w g =
+        g ∙ ap₂ (holdsAt file row s) u w
+        ∙ ap (λ a. holdsAt file row s (pair (action (taskOf file) a .effects) i .variable) (pair (action (taskOf file) a .effects) i .value)) e

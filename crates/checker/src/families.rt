@@ -16,10 +16,14 @@ use task::asked::start_value;
 use task::index::actions;
 use task::numbering::nth_action;
 ghost use mathlib.Core.Path.{_≡_};
-ghost use Prim.Native.Nat.{_+_};
+ghost use Prim.Native.Nat.{_+_, _<_, _≤_};
+ghost use lib.ListN.{length};
+ghost use Rattle.rules.specs.Limits.{maxHorizon};
+ghost use Rattle.rules.specs.Task.{A as actionCount, pair, action};
+ghost use Rattle.task.specs.Index.{Indexed};
 ghost use Rattle.rules.specs.Counting.{first};
 ghost use Rattle.rules.specs.File.{taskOf};
-ghost use Rattle.checker.specs.Order.{isFalse, clausesOf, Come, startValues, goalPairs, someValue, twoValues, preconditionsHold, effectsHold, twoActions};
+ghost use Rattle.checker.specs.Order.{holdsAt, isFalse, clausesOf, Come, startValues, goalPairs, someValue, twoValues, preconditionsHold, effectsHold, twoActions};
 
 // A variable has its start value at the first step.
 pub fn start_clause(
@@ -93,6 +97,27 @@ pub fn two_values_clauses(
     at + first_pair(row, first_value(file, index, step, x), size(file, x))
 }
 
+// Pair i of an action's preconditions holds at a step.
+fn precondition_holds(
+    file: &[u8],
+    index: &[usize],
+    row: &[u64],
+    step: usize,
+    a: usize,
+    i: usize,
+) -> bool
+    requires { ⌜ Indexed (now file) (now index) × (step ≤ maxHorizon) × (a < actionCount (taskOf (now file))) × (i < length (action (taskOf (now file)) a .preconditions)) ⌝ }
+    ensures { λ r. ⌜ r ≡ holdsAt (now (file .entry)) (now (row .entry)) step (pair (action (taskOf (now (file .entry))) a .preconditions) i .variable) (pair (action (taskOf (now (file .entry))) a .preconditions) i .value) ⌝ }
+{
+    pair_holds(
+        file,
+        index,
+        row,
+        step,
+        precondition(file, index, nth_action(a), i),
+    )
+}
+
 // The preconditions of an action that is true at a step hold there.
 pub fn precondition_clauses(
     file: &[u8],
@@ -112,18 +137,26 @@ pub fn precondition_clauses(
     }
     let mut i = 0;
     while i < count {
-        if !pair_holds(
-            file,
-            index,
-            row,
-            step,
-            precondition(file, index, nth_action(a), i),
-        ) {
+        if !precondition_holds(file, index, row, step, a, i) {
             return at + i;
         }
         i += 1;
     }
     at + count
+}
+
+// Pair i of an action's effects holds at a step.
+fn effect_holds(file: &[u8], index: &[usize], row: &[u64], step: usize, a: usize, i: usize) -> bool
+    requires { ⌜ Indexed (now file) (now index) × (step ≤ maxHorizon) × (a < actionCount (taskOf (now file))) × (i < length (action (taskOf (now file)) a .effects)) ⌝ }
+    ensures { λ r. ⌜ r ≡ holdsAt (now (file .entry)) (now (row .entry)) step (pair (action (taskOf (now (file .entry))) a .effects) i .variable) (pair (action (taskOf (now (file .entry))) a .effects) i .value) ⌝ }
+{
+    pair_holds(
+        file,
+        index,
+        row,
+        step,
+        effect(file, index, nth_action(a), i),
+    )
 }
 
 // Its effects hold at the next.
@@ -145,13 +178,7 @@ pub fn effect_clauses(
     }
     let mut i = 0;
     while i < count {
-        if !pair_holds(
-            file,
-            index,
-            row,
-            step + 1,
-            effect(file, index, nth_action(a), i),
-        ) {
+        if !effect_holds(file, index, row, step + 1, a, i) {
             return at + i;
         }
         i += 1;
