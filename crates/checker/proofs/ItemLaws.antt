@@ -67,8 +67,8 @@ module _ (file index row : List ℕ) (k : ℕ) where
     pub step-low : s ≤ maxHorizon
     step-low = omega (arith, steps-most k f, c .step, c .reached .low)
 
-    few : at + clausesOf T f i ≤ maxC
-    few = omega (arith, item-few T fine k f (c .reached .low) (c .family) s i (c .step) (c .item), c .reached .is)
+    pub item-bound : at + clausesOf T f i ≤ maxC
+    item-bound = omega (arith, item-few T fine k f (c .reached .low) (c .family) s i (c .step) (c .item), c .reached .is)
 
   module _ (s i at : ℕ) where
     pub start-item : Come file index row k startValues s i at → i < n T
@@ -101,15 +101,15 @@ module _ (file index row : List ℕ) (k : ℕ) where
 
     pub start-fits : Come file index row k startValues s i at → Fits w64 (at + 1)
     unfolding clausesOf
-    start-fits c = record { fits = omega (arith, few startValues s i at c) }
+    start-fits c = record { fits = omega (arith, item-bound startValues s i at c) }
 
     pub goal-fits : Come file index row k goalPairs s i at → Fits w64 (at + 1)
     unfolding clausesOf
-    goal-fits c = record { fits = omega (arith, few goalPairs s i at c) }
+    goal-fits c = record { fits = omega (arith, item-bound goalPairs s i at c) }
 
     pub some-fits : Come file index row k someValue s i at → Fits w64 (at + 1)
     unfolding clausesOf
-    some-fits c = record { fits = omega (arith, few someValue s i at c) }
+    some-fits c = record { fits = omega (arith, item-bound someValue s i at c) }
 
     pub start-inside : (v : ℕ) → Come file index row k startValues s i at → v ≡ startValue T i → v < d T i
     unfolding itemsOf
@@ -131,13 +131,13 @@ module _ (file index row : List ℕ) (k : ℕ) where
       unfolding clausesOf
       precondition-fits p t c e h l =
           let z : m ≡ length (action T i .preconditions) = h ∙ ap (λ a. length (action T a .preconditions)) e in
-          record { fits = omega (arith, few preconditionsHold s i at c) }
+          record { fits = omega (arith, item-bound preconditionsHold s i at c) }
 
       pub effect-fits : (p t : ℕ) → Come file index row k effectsHold s i at → p ≡ i → m ≡ length (action T p .effects) → t ≤ m → Fits w64 (at + t)
       unfolding clausesOf
       effect-fits p t c e h l =
           let z : m ≡ length (action T i .effects) = h ∙ ap (λ a. length (action T a .effects)) e in
-          record { fits = omega (arith, few effectsHold s i at c) }
+          record { fits = omega (arith, item-bound effectsHold s i at c) }
 
       pub precondition-there : (p t : ℕ) → p ≡ i → m ≡ length (action T p .preconditions) → t < m → t < length (action T i .preconditions)
       precondition-there p t e h l = rw e at (rw h at l)
@@ -249,7 +249,7 @@ module _ (file index row : List ℕ) (k : ℕ) where
     unfolding clausesOf
     two-fits =
         let z : pairsBelow m ≡ pairsBelow (d T x) = ap pairsBelow g in
-        record { fits = omega (arith, few twoValues s x at c, first-le (pairsBelow m) (λ j. q (at + j)), pairs-is) }
+        record { fits = omega (arith, item-bound twoValues s x at c, first-le (pairsBelow m) (λ j. q (at + j)), pairs-is) }
 
     pub two-lowest : at + r ≡ first (at + clausesOf T twoValues x) q
     unfolding clausesOf
@@ -277,7 +277,7 @@ module _ (file index row : List ℕ) (k : ℕ) where
       unfolding clausesOf
       actions-fits =
           let z : pairsBelow m ≡ pairsBelow (A T) = ap pairsBelow g in
-          record { fits = omega (arith, few twoActions s 0 at c, first-le (pairsBelow m) (λ j. q (at + j)), actions-is) }
+          record { fits = omega (arith, item-bound twoActions s 0 at c, first-le (pairsBelow m) (λ j. q (at + j)), actions-is) }
 
       pub actions-lowest : at + r ≡ first (at + clausesOf T twoActions 0) q
       unfolding clausesOf
@@ -290,15 +290,15 @@ module _ (q : ℕ → Bool) (at : ℕ) where
   pairs-yet h = let z : at + 0 ≡ at = omega arith in rw z h
 
   module _ (t : ℕ) (none : first (at + t) q ≡ at + t) where
-    pairs-more : q (at + t) ≡ false → first (at + (t + 1)) q ≡ at + (t + 1)
+    pub pairs-more : q (at + t) ≡ false → first (at + (t + 1)) q ≡ at + (t + 1)
     pairs-more f =
         let z : at + t + 1 ≡ at + (t + 1) = omega arith in
         sym (ap (λ m. first m q) z) ∙ sym (next-true q (at + t) none (q (at + t)) refl f) ∙ z
 
-    pairs-found : (m : ℕ) → t < m → q (at + t) ≡ true → at + t ≡ first (at + m) q
+    pub pairs-found : (m : ℕ) → t < m → q (at + t) ≡ true → at + t ≡ first (at + m) q
     pairs-found m l f = sym (first-is (at + m) q (at + t) (omega arith) f (λ j b. first-before (at + t) q j (omega arith)))
 
-    pairs-all : (m n : ℕ) → t ≤ m → m ≤ t → m ≡ n → at + m ≡ first (at + n) q
+    pub pairs-all : (m n : ℕ) → t ≤ m → m ≤ t → m ≡ n → at + m ≡ first (at + n) q
     pairs-all m n l h e =
         let z : at + m ≡ at + t = omega arith in
         let y : at + t ≡ at + n = omega arith in

@@ -4,3 +4,5 @@ pub mod Widths
 pub mod FirstTwo
 pub mod Clauses
 pub mod ItemLaws
+pub mod StayLaws
+pub mod Moving

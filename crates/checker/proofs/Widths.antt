@@ -219,25 +219,28 @@ module _ (T : Task) where
   families-within k f h =
       rw (all-families k) (sumTo-part familyCount (λ i. getD (countTable T k) i 0) f h)
 
+  pub family-end : (k f : ℕ) → f < familyCount → clausesBefore T k f + stepsOf k f * stepClauses T f ≤ C (problem T k)
+  family-end k f h = omega (arith, next-family k f h, families-within k f h)
+
   -- an item's clauses are within its step's, and a step's within its family's
-  item-within : (f i : ℕ) → i < itemsOf T f → sumTo i (clausesOf T f) + clausesOf T f i ≤ stepClauses T f
+  pub item-within : (f i : ℕ) → i < itemsOf T f → sumTo i (clausesOf T f) + clausesOf T f i ≤ stepClauses T f
   unfolding stepClauses
   item-within f i h = sumTo-part (itemsOf T f) (clausesOf T f) i h
 
-  step-within : (k f s : ℕ) → s < stepsOf k f → s * stepClauses T f + stepClauses T f ≤ stepsOf k f * stepClauses T f
+  pub step-within : (k f s : ℕ) → s < stepsOf k f → s * stepClauses T f + stepClauses T f ≤ stepsOf k f * stepClauses T f
   step-within k f s h = omega (arith, mul-le-mul-right (stepClauses T f) h, suc-mul s (stepClauses T f))
 
   module _ (fine : WellFormed T) (k f : ℕ) (h : k ≤ maxHorizon) (l : f < familyCount) where
-    few : clausesBefore T k f + stepsOf k f * stepClauses T f ≤ maxC
-    few = omega (arith, next-family k f l, families-within k f l, C-bound T fine k h)
+    pub family-few : clausesBefore T k f + stepsOf k f * stepClauses T f ≤ maxC
+    family-few = omega (arith, next-family k f l, families-within k f l, C-bound T fine k h)
 
     pub step-few : (s : ℕ) → s < stepsOf k f → firstClause T k f s 0 + stepClauses T f ≤ maxC
     unfolding firstClause sumTo
-    step-few s hs = omega (arith, few, step-within k f s hs)
+    step-few s hs = omega (arith, family-few, step-within k f s hs)
 
     pub item-few : (s i : ℕ) → s < stepsOf k f → i < itemsOf T f → firstClause T k f s i + clausesOf T f i ≤ maxC
     unfolding firstClause
-    item-few s i hs hi = omega (arith, few, step-within k f s hs, item-within f i hi)
+    item-few s i hs hi = omega (arith, family-few, step-within k f s hs, item-within f i hi)
 
 -- ---- of an accepted file
 

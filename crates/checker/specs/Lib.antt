@@ -1,2 +1,3 @@
 -- What the checker's contracts cite beside the rules.
 pub mod Order
+pub mod Staying

@@ -2,4 +2,6 @@
 pub mod bits;
 pub mod families;
 pub mod pairs;
+pub mod search;
 pub mod sizes;
+pub mod stays;
