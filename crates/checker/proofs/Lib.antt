@@ -6,3 +6,5 @@ pub mod Clauses
 pub mod ItemLaws
 pub mod StayLaws
 pub mod Moving
+pub mod ScheduleLaws
+pub mod EndLaws

@@ -224,3 +224,28 @@ product-few file index k f a b ix h l e g =
 
 pub product-is : (file : List ℕ) (k f a b : ℕ) → a ≡ stepsOf k f → b ≡ stepClauses (taskOf file) f → a * b ≡ stepsOf k f * stepClauses (taskOf file) f
 product-is file k f a b e g = rw (e, g) refl
+
+-- ---- how many clauses there are, family by family
+
+module _ (file : List ℕ) (k : ℕ) where
+  pub count-yet : 0 ≡ clausesBefore (taskOf file) k 0
+  unfolding clausesBefore sumTo
+  count-yet = refl
+
+  module _ (f n w : ℕ) (e : n ≡ clausesBefore (taskOf file) k f) (h : w ≡ stepsOf k f * stepClauses (taskOf file) f) (l : f < familyCount) where
+    pub count-more : n + w ≡ clausesBefore (taskOf file) k (f + 1)
+    count-more = omega (arith, next-family (taskOf file) k f l, ap (clausesBefore (taskOf file) k) (one-more f))
+      where
+        one-more : (f : ℕ) → f + 1 ≡ suc f
+        one-more f = omega arith
+
+    pub count-fits : (index : List ℕ) → Indexed file index → k ≤ maxHorizon → Fits w64 (n + w)
+    count-fits index ix low =
+        record {
+          fits = omega (arith, family-few (taskOf file) (accepted-well-formed file (ix .accepted)) k f low l);
+        }
+
+  pub count-all : (f n : ℕ) → n ≡ clausesBefore (taskOf file) k f → f ≤ familyCount → familyCount ≤ f → n ≡ C (problemOf file k)
+  unfolding problemOf
+  count-all f n e l u =
+      let same : f ≡ familyCount = omega arith in e ∙ ap (clausesBefore (taskOf file) k) same ∙ sym (all-families (taskOf file) k)

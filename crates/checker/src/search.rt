@@ -149,3 +149,17 @@ pub fn lowest_false(file: &[u8], index: &[usize], horizon: usize, row: &[u64]) -
     }
     at
 }
+
+// C.
+pub fn all_clauses(file: &[u8], index: &[usize], horizon: usize) -> usize
+    requires { ⌜ Indexed (now file) (now index) × (horizon ≤ maxHorizon) ⌝ }
+    ensures { λ r. ⌜ r ≡ C (problemOf (now (file .entry)) horizon) ⌝ }
+{
+    let mut family = 0;
+    let mut count = 0;
+    while family < FAMILY_COUNT {
+        count += family_clauses(file, index, horizon, family);
+        family += 1;
+    }
+    count
+}
