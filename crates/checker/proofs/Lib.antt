@@ -8,3 +8,4 @@ pub mod StayLaws
 pub mod Moving
 pub mod ScheduleLaws
 pub mod EndLaws
+pub mod Decided
