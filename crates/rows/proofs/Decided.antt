@@ -19,6 +19,8 @@ use Rattle.rows.proofs.count_set.Kinds as count-set-kinds
 use Rattle.rows.proofs.count_set.Reads as count-set
 use Rattle.rows.proofs.first_set.Kinds as first-set-kinds
 use Rattle.rows.proofs.first_set.Reads as first-set
+use Rattle.rows.proofs.first_unset.Kinds as first-unset-kinds
+use Rattle.rows.proofs.first_unset.Reads as first-unset
 
 pub words-for-decided : (κs : Lfts 0) (a : Dens κs words-for-kinds.ps) (r s : ℕ) (x y : AtExit (endedOf 0 words-for-kinds.ps words-for-kinds.r) κs)
     → words-for.Post κs a r x → words-for.Post κs a s y → r ≡ s
@@ -43,3 +45,7 @@ count-set-decided κs a r s x y p q = p ∙ sym q
 pub first-set-decided : (κs : Lfts 1) (a : Dens κs first-set-kinds.ps) (r s : ℕ) (x y : AtExit (endedOf 1 first-set-kinds.ps first-set-kinds.r) κs)
     → first-set.Post κs a r x → first-set.Post κs a s y → r ≡ s
 first-set-decided κs a r s x y p q = p ∙ sym q
+
+pub first-unset-decided : (κs : Lfts 1) (a : Dens κs first-unset-kinds.ps) (r s : ℕ) (x y : AtExit (endedOf 1 first-unset-kinds.ps first-unset-kinds.r) κs)
+    → first-unset.Post κs a r x → first-unset.Post κs a s y → r ≡ s
+first-unset-decided κs a r s x y p q = p ∙ sym q

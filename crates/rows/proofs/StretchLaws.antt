@@ -16,11 +16,12 @@ use lib.Bits.{bitAnd, and-mask}
 use lib.Count.{ones, ones-cat, ones-le, trailingZeros, trailing-le}
 use lib.Pow.{pow-pos, shr-shr, mod-pow-add, ones-split, high, ones-lt}
 use lib.ListN.{length, getD, List·getD-eq-default}
-use Rattle.rules.specs.Counting.{sumTo}
+use Rattle.rules.specs.Counting.{sumTo, first}
 use Rattle.rules.specs.Rows.{wordBits, bitOf, bitOfVariable}
 use Rattle.rules.proofs.Bools.{either, below-or}
 use Rattle.rules.proofs.Counting.{sumTo-ext, first-is, first-none}
-use Rattle.rows.specs.Stretch.{setBelow, LowestSet, countSet, firstSet}
+use Rattle.rows.specs.Bits.{setFrom}
+use Rattle.rows.specs.Stretch.{setBelow, LowestSet, countSet}
 use Rattle.rows.proofs.Bits.{digit, digit-zero, digit-suc, digit-bit}
 
 -- ---- the ones of a masked word
@@ -175,13 +176,13 @@ module _ (row : List ℕ) (from many done w size low : ℕ) (f : 0 < from) (s : 
   pub none-on : size ≤ low → NoneSet row from (done + size)
   none-on h = none-below size h (omega arith)
 
-  pub first-here : done < many → low < size → done + low ≡ firstSet row from many
-  unfolding firstSet
+  pub first-here : done < many → low < size → done + low ≡ first many (setFrom row from)
+  unfolding setFrom
   first-here d h =
       sym (first-is many (λ i. bitOfVariable row (from + i)) (done + low) (omega (arith, s))
       (sym (bits-are row w (from - 1 + done) from done low e f refl (omega (arith, s))) ∙ l .here (omega (arith, s)))
       (none-below low (omega arith) (omega arith)))
 
-pub first-nowhere : (row : List ℕ) (from many done : ℕ) → many ≤ done → NoneSet row from done → many ≡ firstSet row from many
-unfolding firstSet
+pub first-nowhere : (row : List ℕ) (from many done : ℕ) → many ≤ done → NoneSet row from done → many ≡ first many (setFrom row from)
+unfolding setFrom
 first-nowhere row from many done h none = sym (first-none many (λ i. bitOfVariable row (from + i)) (λ i b. none i (omega arith)))

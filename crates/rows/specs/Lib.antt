@@ -1,2 +1,4 @@
--- What is asked of a stretch of variables in a row of bits.
+-- What the contracts of this crate cite beside the rules.
+pub mod Bound
+pub mod Bits
 pub mod Stretch

@@ -4,7 +4,7 @@ use Prim.Native.Nat.{ℕ, _+_, _≤_, _<_}
 use mathlib.Core.Path.{_≡_}
 use mathlib.Core.Bool.{true, false, cond}
 use mathlib.Core.List.{List}
-use Rattle.rules.specs.Counting.{sumTo, first}
+use Rattle.rules.specs.Counting.{sumTo}
 use Rattle.rules.specs.Rows.{wordBits, bitOf, bitOfVariable}
 
 -- ---- in one word
@@ -24,7 +24,3 @@ pub record LowestSet (w r : ℕ) : Type 0 where
 -- how many are set
 unfoldable pub countSet : List ℕ → ℕ → ℕ → ℕ
 countSet row from many = sumTo many (λ i. cond (bitOfVariable row (from + i)) 1 0)
-
--- which is the first that is set, counted from 0; `many` where none is
-unfoldable pub firstSet : List ℕ → ℕ → ℕ → ℕ
-firstSet row from many = first many (λ i. bitOfVariable row (from + i))

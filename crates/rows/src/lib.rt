@@ -3,7 +3,10 @@ ghost use mathlib.Core.Path.{_≡_};
 ghost use Prim.Native.Nat.{_+_, _-_, _/_, _%_, _^_, _<_, _≤_, min};
 ghost use lib.ListN.{length, getD, replicate};
 ghost use Rattle.rules.specs.Rows.{wordBits, wordsFor, withBit, bitOfVariable, withVariable, overRow};
-ghost use Rattle.rows.specs.Stretch.{setBelow, LowestSet, countSet, firstSet};
+ghost use Rattle.rules.specs.Counting.{first};
+ghost use Rattle.rows.specs.Bits.{setFrom, notSet};
+ghost use Rattle.rows.specs.Bound.{mostVariables};
+ghost use Rattle.rows.specs.Stretch.{setBelow, LowestSet, countSet};
 
 const WORD_BITS: usize = 64;
 
@@ -118,8 +121,8 @@ pub fn count_set(row: &[u64], from: usize, many: usize) -> usize
 
 // Which of the `many` variables from `from` on is the first that is set, counted from 0; `many` where none is.
 pub fn first_set(row: &[u64], from: usize, many: usize) -> usize
-    requires { ⌜ (0 < from) × (from + many < 2 ^ 64) ⌝ }
-    ensures { λ r. ⌜ r ≡ firstSet (now (row .entry)) from many ⌝ }
+    requires { ⌜ (0 < from) × (from + many < mostVariables) ⌝ }
+    ensures { λ r. ⌜ r ≡ first many (setFrom (now (row .entry)) from) ⌝ }
 {
     let mut done = 0;
     while done < many {
@@ -132,4 +135,29 @@ pub fn first_set(row: &[u64], from: usize, many: usize) -> usize
         done += size;
     }
     many
+}
+
+// The first of the variables 1 to m whose bit is not set; m where all are. Words with all bits set are passed in one step.
+pub fn first_unset(row: &[u64], m: usize) -> usize
+    requires { ⌜ m < mostVariables ⌝ }
+    ensures { λ r. ⌜ r ≡ first m (notSet (now (row .entry))) ⌝ }
+{
+    let mut i = 0;
+    while i < m {
+        let at = i / WORD_BITS;
+        if row.len() <= at {
+            return i;
+        }
+        if i % WORD_BITS == 0 {
+            if row[at] == u64::MAX {
+                i += WORD_BITS;
+                continue;
+            }
+        }
+        if !is_set(row, i + 1) {
+            return i;
+        }
+        i += 1;
+    }
+    m
 }

@@ -12,11 +12,11 @@ use Rattle.rules.specs.Counting.{first, forEach, table, every, any, when
 use Rattle.rules.specs.Task.{Pair, Task, n, d, A, pair, action}
 use Rattle.rules.specs.Problem.{Problem}
 use Rattle.rules.specs.Numbering.{valueNumber, actionNumber, N}
-use Rattle.rules.specs.Families.{Literal, plus, minus, Clause, pairNumber, gives, supporters, formula}
+use Rattle.rules.specs.Families.{Literal, plus, minus, Clause, pairNumber, gives, supporters, formula, C, clause}
 use Rattle.rules.specs.Truth.{Model, literalTrue, clauseTrue, satisfies, assigned}
 use Rattle.rules.specs.Readings.{trueAction, entryOf, scheduleOf}
 use Rattle.rules.proofs.Bools.{and-left, and-right, and-both}
-use Rattle.rules.proofs.Counting.{first-ext, forEach-ext, every-one, every-forEach, every-table, every-when}
+use Rattle.rules.proofs.Counting.{first-ext, forEach-ext, every-one, every-forEach, every-table, every-when, every-getD}
 use Rattle.rules.proofs.EachClause.{every-clause}
 use Rattle.rules.proofs.Valid.{WellFormed, InOrder, Inside, ActionFine}
 use Rattle.rules.proofs.Numbering.{AtValue, AtAction, value-number-positive, value-number-within, action-number-positive, action-number-within}
@@ -113,6 +113,11 @@ module _ (P : Problem) where
     clauses-alike [] h = refl
     clauses-alike (c ∷ cs) h =
         ap₂ _&&_ (clause-alike c (and-left (allWithin c) (every allWithin cs) h)) (clauses-alike cs (and-right (allWithin c) (every allWithin cs) h))
+
+    -- each clause of the formula by itself
+    pub clause-same : WellFormed (P .task) → (c : ℕ) → c < C P → clauseTrue M (clause P c) ≡ clauseTrue M′ (clause P c)
+    unfolding C clause
+    clause-same fine c l = clause-alike (getD (formula P) c []) (every-getD allWithin (formula P) [] (all-within fine) c l)
 
     pub satisfied-alike : WellFormed (P .task) → satisfies M (formula P) ≡ satisfies M′ (formula P)
     satisfied-alike fine = clauses-alike (formula P) (all-within fine)

@@ -1,0 +1,319 @@
+-- The end of a reading, way by way.
+-- Assumes nothing.
+use mathlib.Core.Path.{_≡_, refl, sym, ap, ap₂, _∙_}
+use mathlib.Core.Logic.{⊎-elim}
+use mathlib.Core.Bool.{Bool, true, false, not, _&&_}
+use mathlib.Core.List.{List, [], _∷_, _++_}
+use Prim.Native.Nat.{ℕ, suc, _+_, _-_, _*_, _≤_, _<_}
+use native.Mathlib.Omega.{arith}
+use native.Mathlib.Nat.{mul-le-mul}
+use native.Mathlib.Numerals.{add-one}
+use borrow.Author.Tests.{le-leb, lt-leb, leb-true}
+use mir.Syntax.{w64}
+use mir.Val.{Fits}
+use lib.Dec.{leb}
+use lib.ListN.{length, drop}
+use Rattle.rules.specs.Counting.{first}
+use Rattle.rules.specs.Answers.{Rule, demand, noneAtFault, judge, inTurn}
+use Rattle.rules.specs.Limits.{maxHorizon, maxValues, maxActions}
+use Rattle.rules.specs.Task.{S, A}
+use Rattle.rules.specs.Problem.{Problem}
+use Rattle.rules.specs.Numbering.{stride, N}
+use Rattle.rules.specs.Families.{C, clause}
+use Rattle.rules.specs.Rows.{Rows, wordsFor, bitOfVariable}
+use Rattle.rules.specs.Truth.{Model, clauseTrue, modelIn}
+use Rattle.rules.specs.File.{taskOf, fileRules, fileVerdict}
+use Rattle.rules.specs.Lines.{rowsFit}
+use Rattle.rules.specs.Output.{ending, modelRules, outcome}
+use Rattle.rules.specs.Readings.{scheduleOf}
+use Rattle.rules.specs.Calls.{problemOf, problemRules, problemVerdict, lentAfter, endVerdict, endEntries}
+use Rattle.rules.specs.declared.Refusal.{Refusal}
+use Rattle.rules.specs.declared.Refusal.the-variants.{Horizon, Room, NotGiven, FalseClause, Unfinished, Unsatisfiable, Unknown}
+use Rattle.rules.specs.declared.Verdict.{Verdict}
+use Rattle.rules.specs.declared.Verdict.the-variants.{Accepted, Refused}
+use Rattle.rules.specs.declared.Phase.{Phase}
+use Rattle.rules.specs.declared.Phase.the-variants.{NoStatus, ModelOpen, ModelClosed, SaidUnsatisfiable, SaidUnknown}
+use Rattle.rules.proofs.Endings.{accepted-complete}
+use Rattle.rules.proofs.Bools.{not-true, not-false, and-right}
+use Rattle.rules.proofs.Counting.{first-le, first-before, first-ext, length-table}
+use Rattle.rules.proofs.Judging.{judge-refused, judge-passed, judge-append, judge-nil, judge-head, inTurn-left, inTurn-right, refused-not}
+use Rattle.rules.proofs.Loops.{judge-found, judge-none}
+use Rattle.rules.proofs.Files.{accepted-well-formed}
+use Rattle.rules.proofs.Within.{Agree, clause-same, schedule-alike}
+use Rattle.task.specs.Index.{Indexed, indexOf}
+use Rattle.rows.specs.Bits.{notSet}
+use Rattle.rows.specs.Bound.{mostVariables}
+use Rattle.checker.specs.Order.{complete, isFalse}
+use Rattle.checker.specs.End.{lent, endWith}
+
+-- ---- the file and the horizon
+
+module _ (file : List ℕ) (k : ℕ) (v : Verdict) (e : v ≡ fileVerdict file) where
+  in-turn : problemVerdict file k ≡ inTurn v (judge (demand (leb k maxHorizon) Horizon ∷ []))
+  unfolding problemVerdict problemRules fileVerdict
+  in-turn = rw e (judge-append (fileRules file) _)
+
+  pub file-wrong : (why : Refusal) → v ≡ Refused why → v ≡ problemVerdict file k
+  file-wrong why f = rw (in-turn, f)
+
+  pub horizon-wrong : v ≡ Accepted → maxHorizon < k → Refused Horizon ≡ problemVerdict file k
+  horizon-wrong f h = sym (in-turn ∙ ap (λ v. inTurn v (judge (demand (leb k maxHorizon) Horizon ∷ []))) f ∙ judge-refused _ [] (lt-leb _ _ h))
+
+  pub problem-right : v ≡ Accepted → k ≤ maxHorizon → Accepted ≡ problemVerdict file k
+  problem-right f h =
+      sym (in-turn ∙ ap (λ v. inTurn v (judge (demand (leb k maxHorizon) Horizon ∷ []))) f ∙ judge-passed _ [] (le-leb _ _ h) ∙ judge-nil)
+
+module _ (file : List ℕ) (k : ℕ) (v : Verdict) (e : v ≡ problemVerdict file k) (f : v ≡ Accepted) where
+  both : inTurn (fileVerdict file) (judge (demand (leb k maxHorizon) Horizon ∷ [])) ≡ Accepted
+  both = sym (in-turn file k (fileVerdict file) refl) ∙ sym e ∙ f
+
+  pub file-right : fileVerdict file ≡ Accepted
+  file-right = inTurn-left _ _ both
+
+  pub horizon-right : k ≤ maxHorizon
+  horizon-right = leb-true _ _ (judge-head _ [] (inTurn-right (fileVerdict file) _ both))
+
+  pub index-right : (index : List ℕ) → index ≡ indexOf file → Indexed file index
+  index-right index g = record { accepted = file-right; filled = g }
+
+-- ---- N
+
+module _ (file index : List ℕ) (k : ℕ) (ix : Indexed file index) (low : k ≤ maxHorizon) (w : ℕ) (h : w ≡ stride (taskOf file)) where
+  product : k * w ≤ maxHorizon * (maxValues + maxActions)
+  product =
+      let t = accepted-well-formed file (ix .accepted) in
+      let l : w ≤ maxValues + maxActions = omega (arith, t .values-few, t .actions-few) in mul-le-mul low l
+
+  pub steps-fit : Fits w64 (k * w)
+  steps-fit = record { fits = omega (arith, product) }
+
+  module _ (v : ℕ) (g : v ≡ S (taskOf file)) where
+    pub variables-fit : Fits w64 (k * w + v)
+    variables-fit = record { fits = omega (arith, product, accepted-well-formed file (ix .accepted) .values-few) }
+
+    pub variables-are : k * w + v ≡ N (problemOf file k)
+    unfolding N problemOf
+    variables-are = rw (h, g) refl
+
+pub variables-few : (file index : List ℕ) (k m : ℕ) → Indexed file index → k ≤ maxHorizon → m ≡ N (problemOf file k) → m < mostVariables
+unfolding N problemOf
+variables-few file index k m ix low e =
+    omega (arith, product file index k ix low (stride (taskOf file)) refl, accepted-well-formed file (ix .accepted) .values-few)
+
+-- ---- 16 and 17
+
+module _ (file index : List ℕ) (k : ℕ) (given isTrue : List ℕ) (ix : Indexed file index) (low : k ≤ maxHorizon) (m v : ℕ)
+    (e : m ≡ N (problemOf file k)) (h : v ≡ first m (notSet given)) where
+  first-missing : v ≡ first (N (problemOf file k)) (λ i. not (modelIn (lent given isTrue) .given (suc i)))
+  unfolding notSet
+  first-missing = h ∙ ap (λ m. first m (notSet given)) e
+
+  pub given-not : v < m → Refused (NotGiven (v + 1)) ≡ judge (modelRules (problemOf file k) (lent given isTrue))
+  unfolding modelRules
+  given-not l =
+      sym (judge-found (N (problemOf file k)) (λ i. not (modelIn (lent given isTrue) .given (suc i))) (λ i. NotGiven (suc i)) _ v (omega arith) first-missing
+      ∙ ap (λ v. Refused (NotGiven v)) (sym (add-one v)))
+
+  pub given-fits : v < m → Fits w64 (v + 1)
+  given-fits l = record { fits = omega (arith, variables-few file index k m ix low e) }
+
+  module _ (l : m ≤ v) where
+    all-given : (i : ℕ) → i < N (problemOf file k) → bitOfVariable given (suc i) ≡ true
+    unfolding notSet
+    all-given i b = not-false _ (first-before m (notSet given) i (omega arith))
+
+    agree : Agree (problemOf file k) (modelIn (lent given isTrue)) (complete isTrue)
+    agree =
+        record {
+          given-alike = λ v low up. let at : v ≡ suc (v - 1) = omega arith in ap (bitOfVariable given) at ∙ all-given (v - 1) (omega arith);
+          true-alike = λ v low up. refl;
+        }
+
+    rest : judge (modelRules (problemOf file k) (lent given isTrue))
+        ≡ judge (noneAtFault (C (problemOf file k)) (λ c. not (clauseTrue (modelIn (lent given isTrue)) (clause (problemOf file k) c))) FalseClause ∷ [])
+    unfolding modelRules
+    rest =
+        judge-none (N (problemOf file k)) (λ i. not (modelIn (lent given isTrue) .given (suc i))) (λ i. NotGiven (suc i)) _
+        (omega (arith, first-missing, first-le (N (problemOf file k)) (λ i. not (modelIn (lent given isTrue) .given (suc i)))))
+
+    same-lowest : first (C (problemOf file k)) (isFalse file k isTrue)
+        ≡ first (C (problemOf file k)) (λ c. not (clauseTrue (modelIn (lent given isTrue)) (clause (problemOf file k) c)))
+    unfolding isFalse problemOf
+    same-lowest =
+        first-ext (C (problemOf file k)) (isFalse file k isTrue) _ (λ c l.
+        ap not (sym (clause-same (problemOf file k) (modelIn (lent given isTrue)) (complete isTrue) agree (accepted-well-formed file (ix .accepted)) c l)))
+
+    module _ (c n : ℕ) (g : c ≡ first (C (problemOf file k)) (isFalse file k isTrue)) (z : n ≡ C (problemOf file k)) where
+      pub clause-false : c < n → Refused (FalseClause c) ≡ judge (modelRules (problemOf file k) (lent given isTrue))
+      clause-false b = sym (rest ∙ judge-found (C (problemOf file k)) _ FalseClause [] c (omega arith) (g ∙ same-lowest))
+
+      pub clauses-true : n ≤ c → Accepted ≡ judge (modelRules (problemOf file k) (lent given isTrue))
+      clauses-true b =
+          sym (rest
+          ∙ judge-none (C (problemOf file k)) _ FalseClause []
+          (omega (arith, g, same-lowest, first-le (C (problemOf file k)) (isFalse file k isTrue)))
+          ∙ judge-nil)
+
+-- ---- 10
+
+module _ (file given isTrue : List ℕ) (k m w room : ℕ) (e : m ≡ N (problemOf file k)) (h : w ≡ wordsFor m) where
+  abbrev fits : Bool
+  fits = rowsFit (N (problemOf file k)) (lent given isTrue) && leb k room
+
+  needed : w ≡ wordsFor (N (problemOf file k))
+  needed = h ∙ ap wordsFor e
+
+  pub given-short : length given < w → false ≡ fits
+  unfolding rowsFit
+  given-short l =
+      sym (ap (λ b. (b && leb (wordsFor (N (problemOf file k))) (length isTrue)) && leb k room) (lt-leb (wordsFor (N (problemOf file k))) (length given) (omega (arith, needed))))
+
+  pub true-short : w ≤ length given → length isTrue < w → false ≡ fits
+  unfolding rowsFit
+  true-short l u =
+      sym (ap₂ (λ a b. (a && b) && leb k room) (le-leb (wordsFor (N (problemOf file k))) (length given) (omega (arith, needed)))
+      (lt-leb (wordsFor (N (problemOf file k))) (length isTrue) (omega (arith, needed))))
+
+  pub rows-long : w ≤ length given → w ≤ length isTrue → leb k room ≡ fits
+  unfolding rowsFit
+  rows-long l u =
+      sym (ap₂ (λ a b. (a && b) && leb k room) (le-leb (wordsFor (N (problemOf file k))) (length given) (omega (arith, needed)))
+      (le-leb (wordsFor (N (problemOf file k))) (length isTrue) (omega (arith, needed))))
+
+-- ---- in their order
+
+module _ (file given isTrue : List ℕ) (k room : ℕ) (phase : Phase) (b : Bool)
+    (e : b ≡ (rowsFit (N (problemOf file k)) (lent given isTrue) && leb k room)) where
+  pub no-room : not b ≡ true → Refused Room ≡ endWith file k phase (lent given isTrue) room
+  unfolding endWith
+  no-room z =
+      sym (ap (λ v. inTurn v (outcome (problemOf file k) phase (lent given isTrue))) (judge-refused (demand (rowsFit (N (problemOf file k)) (lent given isTrue) && leb k room) Room) [] (sym e ∙ not-true b z)))
+
+  module _ (z : not b ≡ false) (s : Verdict) (h : s ≡ ending phase) where
+    to-status : endWith file k phase (lent given isTrue) room ≡ inTurn s (judge (modelRules (problemOf file k) (lent given isTrue)))
+    unfolding endWith outcome
+    to-status =
+        ap (λ v. inTurn v (outcome (problemOf file k) phase (lent given isTrue)))
+        (judge-passed (demand (rowsFit (N (problemOf file k)) (lent given isTrue) && leb k room) Room) [] (sym e ∙ not-false b z) ∙ judge-nil)
+        ∙ ap (λ s. inTurn s (judge (modelRules (problemOf file k) (lent given isTrue)))) (sym h)
+
+    pub status-wrong : (why : Refusal) → s ≡ Refused why → s ≡ endWith file k phase (lent given isTrue) room
+    status-wrong why f = rw (to-status, f)
+
+    pub status-right : (v : Verdict) → s ≡ Accepted → v ≡ judge (modelRules (problemOf file k) (lent given isTrue)) → v ≡ endWith file k phase (lent given isTrue) room
+    status-right v f g = rw (to-status, f) g
+
+-- ---- the whole
+
+module _ (file given isTrue entries : List ℕ) (k : ℕ) (phase : Phase) (p : Verdict) (e : p ≡ problemVerdict file k) where
+  whole : endVerdict file k phase (lent given isTrue) entries
+      ≡ inTurn (inTurn p (judge (demand (rowsFit (N (problemOf file k)) (lent given isTrue) && leb k (length entries)) Room ∷ [])))
+      (outcome (problemOf file k) phase (lent given isTrue))
+  unfolding endVerdict problemVerdict
+  whole =
+      ap (λ v. inTurn v (outcome (problemOf file k) phase (lent given isTrue)))
+      (judge-append (problemRules file k) _
+      ∙ ap (λ p. inTurn p (judge (demand (rowsFit (N (problemOf file k)) (lent given isTrue) && leb k (length entries)) Room ∷ []))) (sym e))
+
+  pub end-early : (why : Refusal) → p ≡ Refused why → p ≡ endVerdict file k phase (lent given isTrue) entries
+  end-early why f = rw (whole, f)
+
+  module _ (f : p ≡ Accepted) (v : Verdict) (g : v ≡ endWith file k phase (lent given isTrue) (length entries)) where
+    pub end-same : v ≡ endVerdict file k phase (lent given isTrue) entries
+    unfolding endWith
+    end-same = rw (whole, f) g
+
+-- a refusal leaves the entries as found
+pub entries-kept : (file given isTrue entries : List ℕ) (k : ℕ) (phase : Phase) (v : Verdict) (why : Refusal)
+    → v ≡ endVerdict file k phase (lent given isTrue) entries → v ≡ Refused why → entries ≡ endEntries file k phase (lent given isTrue) entries
+unfolding endEntries
+entries-kept file given isTrue entries k phase v why e f =
+    ap (λ v. lentAfter v (scheduleOf (problemOf file k) (modelIn (lent given isTrue))) entries) (sym f ∙ e)
+
+length-schedule : (file : List ℕ) (k : ℕ) (M : Model) → length (scheduleOf (problemOf file k) M) ≡ k
+unfolding scheduleOf problemOf
+length-schedule file k M = length-table k _
+
+outcome-of : (file given isTrue entries : List ℕ) (k : ℕ) (phase : Phase) → endVerdict file k phase (lent given isTrue) entries ≡ Accepted
+    → outcome (problemOf file k) phase (lent given isTrue) ≡ Accepted
+unfolding endVerdict
+outcome-of file given isTrue entries k phase h =
+    inTurn-right (judge (problemRules file k ++ (demand (rowsFit (N (problemOf file k)) (lent given isTrue) && leb k (length entries)) Room ∷ [])))
+    (outcome (problemOf file k) phase (lent given isTrue)) h
+
+-- an accepted model gives every variable, so its schedule is the one that its bits state
+closed : (P : Problem) (rows : Rows) (phase : Phase) → outcome P phase rows ≡ Accepted → (i : ℕ) → i < N P → modelIn rows .given (suc i) ≡ true
+unfolding outcome
+closed P rows NoStatus h = refused-not h
+closed P rows ModelOpen h = refused-not h
+closed P rows SaidUnsatisfiable h = refused-not h
+closed P rows SaidUnknown h = refused-not h
+closed P rows ModelClosed h = accepted-complete P rows h .all-given
+
+pub entries-stated : (file given isTrue entries written : List ℕ) (k : ℕ) (phase : Phase) (v : Verdict)
+    → v ≡ endVerdict file k phase (lent given isTrue) entries → v ≡ Accepted
+    → written ≡ scheduleOf (problemOf file k) (complete isTrue) ++ drop k entries → written ≡ endEntries file k phase (lent given isTrue) entries
+unfolding endEntries
+entries-stated file given isTrue entries written k phase v e f h =
+    h
+    ∙ ap₂ (λ w m. w ++ drop m entries) (sym same) (sym (long (modelIn (lent given isTrue))))
+    ∙ ap (λ v. lentAfter v (scheduleOf (problemOf file k) (modelIn (lent given isTrue))) entries) (sym f ∙ e)
+  where
+    accepted : outcome (problemOf file k) phase (lent given isTrue) ≡ Accepted
+    accepted = outcome-of file given isTrue entries k phase (sym e ∙ f)
+
+    same : scheduleOf (problemOf file k) (modelIn (lent given isTrue)) ≡ scheduleOf (problemOf file k) (complete isTrue)
+    same =
+        schedule-alike (problemOf file k) (modelIn (lent given isTrue)) (complete isTrue)
+        (record {
+          given-alike = λ v low up.
+              let at : v ≡ suc (v - 1) = omega arith in
+              ap (bitOfVariable given) at ∙ closed (problemOf file k) (lent given isTrue) phase accepted (v - 1) (omega arith);
+          true-alike = λ v low up. refl;
+        })
+
+    long : (M : Model) → length (scheduleOf (problemOf file k) M) ≡ k
+    long M = length-schedule file k M
+
+-- and there is room for it
+pub entries-room : (file given isTrue entries : List ℕ) (k : ℕ) (phase : Phase) (v : Verdict) → v ≡ endWith file k phase (lent given isTrue) (length entries) → v ≡ Accepted
+    → k ≤ length entries
+unfolding endWith
+entries-room file given isTrue entries k phase v e f =
+    leb-true k (length entries)
+    (and-right (rowsFit (N (problemOf file k)) (lent given isTrue)) (leb k (length entries)) (judge-head _ [] (inTurn-left _ _ (sym e ∙ f))))
+
+-- ---- what the end leaves, way by way
+
+module _ (file given isTrue entries : List ℕ) (k : ℕ) (phase : Phase) (p : Verdict) (e : p ≡ problemVerdict file k) where
+  pub early-kept : (why : Refusal) → p ≡ Refused why → entries ≡ endEntries file k phase (lent given isTrue) entries
+  early-kept why f = entries-kept file given isTrue entries k phase p why (end-early file given isTrue entries k phase p e why f) f
+
+  module _ (f : p ≡ Accepted) (v : Verdict) (g : v ≡ endWith file k phase (lent given isTrue) (length entries)) where
+    pub late-kept : (why : Refusal) → v ≡ Refused why → entries ≡ endEntries file k phase (lent given isTrue) entries
+    late-kept why h = entries-kept file given isTrue entries k phase v why (end-same file given isTrue entries k phase p e f v g) h
+
+    pub end-accepted : v ≡ Accepted → Accepted ≡ endVerdict file k phase (lent given isTrue) entries
+    end-accepted h = sym h ∙ end-same file given isTrue entries k phase p e f v g
+
+    pub late-stated : (written : List ℕ) → v ≡ Accepted → written ≡ scheduleOf (problemOf file k) (complete isTrue) ++ drop k entries
+        → written ≡ endEntries file k phase (lent given isTrue) entries
+    late-stated written h w = entries-stated file given isTrue entries written k phase v (end-same file given isTrue entries k phase p e f v g) h w
+
+-- ---- what the status says
+
+module _ (phase : Phase) where
+  pub said-none : phase ≡ NoStatus → Refused Unfinished ≡ ending phase
+  said-none e = rw e refl
+
+  pub said-open : phase ≡ ModelOpen → Refused Unfinished ≡ ending phase
+  said-open e = rw e refl
+
+  pub said-unsatisfiable : phase ≡ SaidUnsatisfiable → Refused Unsatisfiable ≡ ending phase
+  said-unsatisfiable e = rw e refl
+
+  pub said-unknown : phase ≡ SaidUnknown → Refused Unknown ≡ ending phase
+  said-unknown e = rw e refl
+
+  pub said-closed : phase ≡ ModelClosed → Accepted ≡ ending phase
+  said-closed e = rw e refl

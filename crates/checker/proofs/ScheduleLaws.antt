@@ -1,0 +1,89 @@
+-- The schedule that a model states, entry by entry.
+-- Assumes nothing.
+use mathlib.Core.Path.{_≡_, refl, sym, ap, ap₂, _∙_}
+use mathlib.Core.Bool.{Bool, true, false, cond}
+use mathlib.Core.List.{List, [], _∷_, _++_, append-assoc}
+use Prim.Native.Nat.{ℕ, suc, _+_, _≤_, _<_}
+use native.Mathlib.Omega.{arith}
+use native.Mathlib.Numerals.{add-one}
+use borrow.Author.Tests.{lt-ltb, le-ltb}
+use mir.Syntax.{w32, w64}
+use mir.Val.{Fits}
+use lib.Dec.{ltb}
+use lib.ListN.{length, getD, set, drop}
+use lib.Seq.{set-at, drop-cons}
+use Rattle.rules.specs.Counting.{first, table, forEach}
+use Rattle.rules.specs.Limits.{maxHorizon}
+use Rattle.rules.specs.Task.{Task, A}
+use Rattle.rules.specs.Numbering.{actionNumber}
+use Rattle.rules.specs.Rows.{bitOfVariable}
+use Rattle.rules.specs.Truth.{literalTrue}
+use Rattle.rules.specs.Families.{plus}
+use Rattle.rules.specs.File.{taskOf}
+use Rattle.rules.specs.Calls.{problemOf}
+use Rattle.rules.specs.Readings.{trueAction, entryOf, scheduleOf}
+use Rattle.rules.proofs.Counting.{first-ext, first-le, length-table}
+use Rattle.rules.proofs.Files.{accepted-well-formed}
+use Rattle.task.specs.Index.{Indexed}
+use Rattle.task.specs.Numbers.{atAnyHorizon}
+use Rattle.rows.specs.Bits.{setFrom}
+use Rattle.checker.specs.Order.{complete}
+
+module _ (file row : List ℕ) (s : ℕ) where
+  abbrev T : Task
+  T = taskOf file
+
+  abbrev stated : ℕ
+  stated = entryOf (atAnyHorizon file) (complete row) s
+
+  -- the true action is the first set bit
+  true-is : (m from t : ℕ) → m ≡ A T → from ≡ actionNumber (atAnyHorizon file) s 0 → t ≡ first m (setFrom row from)
+      → trueAction (atAnyHorizon file) (complete row) s ≡ t
+  unfolding trueAction literalTrue setFrom actionNumber
+  true-is m from t g e h =
+      first-ext (A T) _ (setFrom row from) (λ a l. ap (bitOfVariable row) (omega arith)) ∙ ap (λ m. first m (setFrom row from)) (sym g) ∙ sym h
+
+  pub entry-some : (m from t : ℕ) → m ≡ A T → from ≡ actionNumber (atAnyHorizon file) s 0 → t ≡ first m (setFrom row from) → t < m → t + 1 ≡ stated
+  unfolding entryOf
+  entry-some m from t g e h l =
+      let z : trueAction (atAnyHorizon file) (complete row) s ≡ t = true-is m from t g e h in
+      add-one t ∙ sym (ap₂ (λ b u. cond b (suc u) 0) (lt-ltb (trueAction (atAnyHorizon file) (complete row) s) (A T) (omega arith)) z)
+
+  pub entry-none : (m from t : ℕ) → m ≡ A T → from ≡ actionNumber (atAnyHorizon file) s 0 → t ≡ first m (setFrom row from) → m ≤ t → 0 ≡ stated
+  unfolding entryOf
+  entry-none m from t g e h l =
+      let z : trueAction (atAnyHorizon file) (complete row) s ≡ t = true-is m from t g e h in
+      sym (ap (λ b. cond b (suc (trueAction (atAnyHorizon file) (complete row) s)) 0) (le-ltb (trueAction (atAnyHorizon file) (complete row) s) (A T) (omega arith)))
+
+  pub entry-idle : (m : ℕ) → m ≡ A T → m ≡ 0 → 0 ≡ stated
+  unfolding entryOf
+  entry-idle m g z =
+      sym (ap (λ b. cond b (suc (trueAction (atAnyHorizon file) (complete row) s)) 0) (le-ltb (trueAction (atAnyHorizon file) (complete row) s) (A T) (omega arith)))
+
+  pub entry-small : (index : List ℕ) (m t : ℕ) → Indexed file index → m ≡ A T → t < m → Fits w32 (t + 1)
+  entry-small index m t ix g l = record { fits = omega (arith, accepted-well-formed file (ix .accepted) .actions-few) }
+
+-- ---- entries written one behind the other
+
+module _ (file row : List ℕ) where
+  abbrev entries : ℕ → List ℕ
+  entries s = table s (entryOf (atAnyHorizon file) (complete row))
+
+  pub entries-none : (lent : List ℕ) → lent ≡ entries 0 ++ drop 0 lent
+  unfolding forEach
+  entries-none lent = refl
+
+  pub entries-more : (lent written : List ℕ) (s e : ℕ) → s < length lent → written ≡ entries s ++ drop s lent
+      → e ≡ entryOf (atAnyHorizon file) (complete row) s → set written s e ≡ entries (s + 1) ++ drop (s + 1) lent
+  unfolding forEach
+  entries-more lent written s e l h g =
+      rw (add-one s)
+      (ap (λ w. set w s e) (h ∙ ap (λ r. entries s ++ r) (drop-cons lent s 0 l))
+      ∙ set-at (entries s) (getD lent s 0) (drop (suc s) lent) e s (length-table s (entryOf (atAnyHorizon file) (complete row)))
+      ∙ ap (λ e. entries s ++ e ∷ drop (suc s) lent) g
+      ∙ sym (append-assoc (entries s) (entryOf (atAnyHorizon file) (complete row) s ∷ []) (drop (suc s) lent)))
+
+  pub entries-all : (k : ℕ) (lent written : List ℕ) (s : ℕ) → s ≤ k → k ≤ s → written ≡ entries s ++ drop s lent
+      → written ≡ scheduleOf (problemOf file k) (complete row) ++ drop k lent
+  unfolding scheduleOf entryOf trueAction actionNumber problemOf
+  entries-all k lent written s l u h = let same : s ≡ k = omega arith in rw same at h

@@ -1,0 +1,18 @@
+use Rattle.checker.proofs.EndLaws.{clause-false, clauses-true, given-not, variables-few}
+use borrow.Author.Needs.{needs}
+use native.Mathlib.Omega.{arith}
+use Rattle.checker.proofs.end.model_verdict.Statement.{statement}
+use Rattle.checker.proofs.end.model_verdict.Tie as tie
+
+pub model-verdict-spec : {M : Type 1} → statement M
+model-verdict-spec =
+    tie.close
+    (tie.spec
+    (λ c κs. search needs)
+    (λ c κs. search (needs, variables-few))
+    (λ c. search needs)
+    (λ c. search (needs, given-not))
+    (λ c κs. search needs)
+    (λ c κs. search needs)
+    (λ c. search (needs, clause-false))
+    (λ c. search (needs, clauses-true)))

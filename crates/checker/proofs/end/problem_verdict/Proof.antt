@@ -1,0 +1,16 @@
+use Rattle.checker.proofs.EndLaws.{file-wrong, horizon-wrong, problem-right}
+use borrow.Author.Needs.{needs}
+use native.Mathlib.Omega.{arith}
+use Rattle.checker.proofs.end.problem_verdict.Statement.{statement}
+use Rattle.checker.proofs.end.problem_verdict.Tie as tie
+
+pub problem-verdict-spec : {M : Type 1} → statement M
+problem-verdict-spec =
+    tie.close
+    (tie.spec
+    (λ c κs. search needs)
+    (λ c. search needs)
+    (λ c. search needs)
+    (λ c. search (needs, file-wrong))
+    (λ c. search (needs, horizon-wrong))
+    (λ c. search (needs, problem-right)))

@@ -1,0 +1,20 @@
+use Rattle.checker.proofs.EndLaws.{said-closed, said-none, said-open, said-unknown, said-unsatisfiable}
+use borrow.Author.Needs.{needs}
+use native.Mathlib.Omega.{arith}
+use Rattle.checker.proofs.end.status_verdict.Statement.{statement}
+use Rattle.checker.proofs.end.status_verdict.Tie as tie
+
+pub status-verdict-spec : {M : Type 1} → statement M
+status-verdict-spec =
+    tie.close
+    (tie.spec
+    (λ c. search needs)
+    (λ c. search needs)
+    (λ c. search needs)
+    (λ c. search needs)
+    (λ c. search needs)
+    (λ c. search (needs, said-none, said-open, said-unsatisfiable, said-unknown, said-closed))
+    (λ c. search (needs, said-none, said-open, said-unsatisfiable, said-unknown, said-closed))
+    (λ c. search (needs, said-none, said-open, said-unsatisfiable, said-unknown, said-closed))
+    (λ c. search (needs, said-none, said-open, said-unsatisfiable, said-unknown, said-closed))
+    (λ c. search (needs, said-none, said-open, said-unsatisfiable, said-unknown, said-closed)))

@@ -1,0 +1,36 @@
+use mathlib.Core.Path.{_≡_}
+use Prim.Native.Nat.{_≤_, _+_, _-_}
+use Rattle.rules.specs.Counting.{first}
+use Rattle.checker.specs.Order.{isFalse}
+use Rattle.checker.proofs.ItemLaws.{pairs-yet, precondition-action, precondition-again, precondition-all, precondition-fails, precondition-fits, precondition-idle, precondition-item, precondition-there, step-low}
+use borrow.Author.Needs.{needs}
+use native.Mathlib.Omega.{arith}
+use Rattle.checker.proofs.families.precondition_clauses.Statement.{statement}
+use Rattle.checker.proofs.families.precondition_clauses.Tie as tie
+
+abbrev Inv-loop : tie.InvT-loop
+Inv-loop file index horizon row step a at count i₀ i = (i ≤ count) × (first (at + i) (isFalse file horizon row) ≡ at + i)
+
+abbrev μ-loop : tie.MeasureT-loop
+μ-loop file index horizon row step a at count i₀ i = count - i
+
+pub precondition-clauses-spec : {M : Type 1} → statement M
+precondition-clauses-spec =
+    tie.close
+    (tie.spec
+    Inv-loop
+    μ-loop
+    (λ c κs. search needs)
+    (λ c κs. search (needs, precondition-item))
+    (λ c κs. search (needs, precondition-action, step-low))
+    (λ c. search (needs, precondition-fits))
+    (λ c. search (needs, precondition-idle))
+    (λ c. search (needs, pairs-yet))
+    (λ c κs. search (needs, step-low, precondition-action, precondition-there))
+    (λ c. search (needs, precondition-fits))
+    (λ c. search (needs, precondition-fails))
+    (λ c. search needs)
+    (λ c. search needs)
+    (λ c. search (needs, precondition-again))
+    (λ c. search (needs, precondition-fits))
+    (λ c. search (needs, precondition-all)))

@@ -1,0 +1,30 @@
+use Rattle.checker.proofs.FirstTwo.{none-set, second-fits, one-set, before-fits, number-fits, two-set}
+use borrow.Author.Needs.{needs}
+use native.Mathlib.Omega.{arith}
+use Rattle.checker.proofs.pairs.first_pair.Statement.{statement}
+use Rattle.checker.proofs.pairs.first_pair.Tie as tie
+
+pub first-pair-spec : {M : Type 1} → statement M
+first-pair-spec =
+    tie.close
+    (tie.spec
+    (λ c κs. search needs)
+    (λ c κs. search needs)
+    (λ c. search (needs, none-set))
+    (λ c. search needs)
+    (λ c. search needs)
+    (λ c. search needs)
+    (λ c. search needs)
+    (λ c. search needs)
+    (λ c κs. search needs)
+    (λ c. search (needs, second-fits))
+    (λ c κs. search needs)
+    (λ c. search (needs, one-set))
+    (λ c. search needs)
+    (λ c. search needs)
+    (λ c. search needs)
+    (λ c. search (needs, before-fits))
+    (λ c. search needs)
+    (λ c. search needs)
+    (λ c. search (needs, number-fits))
+    (λ c. search (needs, two-set)))

@@ -1,0 +1,36 @@
+use mathlib.Core.Path.{_≡_}
+use mathlib.Core.List.{_++_}
+use Prim.Native.Nat.{_≤_, _-_}
+use lib.ListN.{length, drop}
+use Rattle.rules.specs.Counting.{table}
+use Rattle.rules.specs.Readings.{entryOf}
+use Rattle.task.specs.Numbers.{atAnyHorizon}
+use Rattle.checker.specs.Order.{complete}
+use Rattle.checker.proofs.ScheduleLaws.{entries-more}
+use Rattle.checker.proofs.ScheduleLaws.{entries-all, entries-none}
+use borrow.Author.Needs.{needs}
+use native.Mathlib.Omega.{arith}
+use Rattle.checker.proofs.schedule.write_schedule.Statement.{statement}
+use Rattle.checker.proofs.schedule.write_schedule.Tie as tie
+
+abbrev Inv-loop : tie.InvT-loop
+Inv-loop file index horizon row entries₀ step₀ entries step = (step ≤ horizon) × (length entries ≡ length entries₀) × (entries ≡ table step (entryOf (atAnyHorizon file) (complete row)) ++ drop step entries₀)
+
+abbrev μ-loop : tie.MeasureT-loop
+μ-loop file index horizon row entries₀ step₀ entries step = horizon - step
+
+pub write-schedule-spec : {M : Type 1} → statement M
+write-schedule-spec =
+    tie.close
+    (tie.spec
+    Inv-loop
+    μ-loop
+    (λ c. search (needs, entries-none))
+    (λ c κs. search needs)
+    (λ c. search needs)
+    (λ c. search needs)
+    (λ c. search needs)
+    (λ c. search needs)
+    (λ c. (search needs, search needs, entries-more _ _ _ (c .before .before .loop .entries) (c .before .before .loop .step) _ (search needs) (c .before .before .loop .inv .2) (c .entry-at .ensures)))
+    (λ c. search needs)
+    (λ c. search (needs, entries-all)))

@@ -1,0 +1,31 @@
+-- Family 7 by bits: a value changes alone where it is true at the next step, not at this one, and no true action gives it.
+-- Assumes nothing.
+use Prim.Native.Nat.{ℕ, suc}
+use mathlib.Core.Bool.{Bool, not, _&&_}
+use mathlib.Core.List.{List}
+use lib.Dec.{eqb, ltb}
+use Rattle.rules.specs.Counting.{first}
+use Rattle.rules.specs.Task.{A, pair, action}
+use Rattle.rules.specs.Families.{gives}
+use Rattle.rules.specs.File.{taskOf}
+use Rattle.task.specs.Numbers.{atAnyHorizon}
+use Rattle.checker.specs.Order.{holdsAt, actsAt}
+
+-- effect i of action a is x = v
+unfoldable pub effectIs : (file : List ℕ) → ℕ → ℕ → ℕ → ℕ → Bool
+effectIs file a x v i = eqb (pair (action (taskOf file) a .effects) i .variable) x && eqb (pair (action (taskOf file) a .effects) i .value) v
+
+-- action a has the effect x = v
+unfoldable pub givesAt : (file : List ℕ) → ℕ → ℕ → ℕ → Bool
+givesAt file x v a = gives (atAnyHorizon file) a x v
+
+-- action a is true at step s and has the effect x = v
+unfoldable pub supportsAt : (file row : List ℕ) → ℕ → ℕ → ℕ → ℕ → Bool
+supportsAt file row s x v a = actsAt file row s a && givesAt file x v a
+
+-- some action does
+unfoldable pub supportedAt : (file row : List ℕ) → ℕ → ℕ → ℕ → Bool
+supportedAt file row s x v = ltb (first (A (taskOf file)) (supportsAt file row s x v)) (A (taskOf file))
+
+unfoldable pub changesAlone : (file row : List ℕ) → ℕ → ℕ → ℕ → Bool
+changesAlone file row s x v = holdsAt file row (suc s) x v && (not (holdsAt file row s x v) && not (supportedAt file row s x v))

@@ -1,0 +1,66 @@
+// What the row of a model that gives every variable says of a step.
+use rows::is_set;
+use task::numbering::ValuePlace;
+use task::numbering::action_number;
+use task::numbering::nth_action;
+use task::numbering::number_of;
+use task::numbering::value_number;
+use task::numbering::value_place;
+ghost use mathlib.Core.Path.{_≡_};
+ghost use Prim.Native.Nat.{_<_, _≤_};
+ghost use Rattle.rules.specs.Limits.{maxHorizon};
+ghost use Rattle.rules.specs.Task.{n, d, A as actionCount};
+ghost use Rattle.rules.specs.Numbering.{valueNumber, actionNumber};
+ghost use Rattle.rules.specs.File.{taskOf};
+ghost use Rattle.task.specs.Index.{Indexed};
+ghost use Rattle.task.specs.Numbers.{atAnyHorizon};
+ghost use Rattle.checker.specs.Order.{holdsAt, actsAt};
+
+// A variable has a value at a step.
+pub fn pair_holds(file: &[u8], index: &[usize], row: &[u64], step: usize, place: ValuePlace) -> bool
+    requires { ⌜ Indexed (now file) (now index) × (step ≤ maxHorizon) × (place .0 < n (taskOf (now file))) × (place .1 < d (taskOf (now file)) (place .0)) ⌝ }
+    ensures { λ r. ⌜ r ≡ holdsAt (now (file .entry)) (now (row .entry)) step (place .0) (place .1) ⌝ }
+{
+    is_set(row, number_of(value_number(file, index, step, place)))
+}
+
+pub fn value_holds(
+    file: &[u8],
+    index: &[usize],
+    row: &[u64],
+    step: usize,
+    x: usize,
+    v: usize,
+) -> bool
+    requires { ⌜ Indexed (now file) (now index) × (step ≤ maxHorizon) × (x < n (taskOf (now file))) × (v < d (taskOf (now file)) x) ⌝ }
+    ensures { λ r. ⌜ r ≡ holdsAt (now (file .entry)) (now (row .entry)) step x v ⌝ }
+{
+    pair_holds(file, index, row, step, value_place(x, v))
+}
+
+// An action is true at a step.
+pub fn acts(file: &[u8], index: &[usize], row: &[u64], step: usize, a: usize) -> bool
+    requires { ⌜ Indexed (now file) (now index) × (step ≤ maxHorizon) × (a < actionCount (taskOf (now file))) ⌝ }
+    ensures { λ r. ⌜ r ≡ actsAt (now (file .entry)) (now (row .entry)) step a ⌝ }
+{
+    is_set(
+        row,
+        number_of(action_number(file, index, step, nth_action(a))),
+    )
+}
+
+// The number of a variable's first value at a step.
+pub fn first_value(file: &[u8], index: &[usize], step: usize, x: usize) -> usize
+    requires { ⌜ Indexed (now file) (now index) × (step ≤ maxHorizon) × (x < n (taskOf (now file))) ⌝ }
+    ensures { λ r. ⌜ r ≡ valueNumber (atAnyHorizon (now (file .entry))) step x 0 ⌝ }
+{
+    number_of(value_number(file, index, step, value_place(x, 0)))
+}
+
+// The number of the first action at a step.
+pub fn first_action(file: &[u8], index: &[usize], step: usize) -> usize
+    requires { ⌜ Indexed (now file) (now index) × (step ≤ maxHorizon) × (0 < actionCount (taskOf (now file))) ⌝ }
+    ensures { λ r. ⌜ r ≡ actionNumber (atAnyHorizon (now (file .entry))) step 0 ⌝ }
+{
+    number_of(action_number(file, index, step, nth_action(0)))
+}

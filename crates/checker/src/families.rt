@@ -1,0 +1,206 @@
+// The lowest false clause of one item, family by family: where none is false, the number of the clause behind the item's last.
+use crate::bits::acts;
+use crate::bits::first_action;
+use crate::bits::first_value;
+use crate::bits::pair_holds;
+use crate::bits::value_holds;
+use crate::pairs::first_pair;
+use rows::first_set;
+use task::asked::effect;
+use task::asked::effect_count;
+use task::asked::goal_pair;
+use task::asked::precondition;
+use task::asked::precondition_count;
+use task::asked::size;
+use task::asked::start_value;
+use task::index::actions;
+use task::numbering::nth_action;
+ghost use mathlib.Core.Path.{_≡_};
+ghost use Prim.Native.Nat.{_+_, _<_, _≤_};
+ghost use lib.ListN.{length};
+ghost use Rattle.rules.specs.Limits.{maxHorizon};
+ghost use Rattle.rules.specs.Task.{A as actionCount, pair, action};
+ghost use Rattle.task.specs.Index.{Indexed};
+ghost use Rattle.rules.specs.Counting.{first};
+ghost use Rattle.rules.specs.File.{taskOf};
+ghost use Rattle.checker.specs.Order.{holdsAt, isFalse, clausesOf, Come, startValues, goalPairs, someValue, twoValues, preconditionsHold, effectsHold, twoActions};
+
+// A variable has its start value at the first step.
+pub fn start_clause(
+    file: &[u8],
+    index: &[usize],
+    horizon: usize,
+    row: &[u64],
+    x: usize,
+    at: usize,
+) -> usize
+    requires { ⌜ Come (now file) (now index) (now row) horizon startValues 0 x at ⌝ }
+    ensures { λ r. ⌜ r ≡ first (at + clausesOf (taskOf (now (file .entry))) startValues x) (isFalse (now (file .entry)) horizon (now (row .entry))) ⌝ }
+{
+    if value_holds(file, index, row, 0, x, start_value(file, x)) {
+        return at + 1;
+    }
+    at
+}
+
+// A goal pair holds at the last step.
+pub fn goal_clause(
+    file: &[u8],
+    index: &[usize],
+    horizon: usize,
+    row: &[u64],
+    i: usize,
+    at: usize,
+) -> usize
+    requires { ⌜ Come (now file) (now index) (now row) horizon goalPairs 0 i at ⌝ }
+    ensures { λ r. ⌜ r ≡ first (at + clausesOf (taskOf (now (file .entry))) goalPairs i) (isFalse (now (file .entry)) horizon (now (row .entry))) ⌝ }
+{
+    if pair_holds(file, index, row, horizon, goal_pair(file, i)) {
+        return at + 1;
+    }
+    at
+}
+
+// A variable has some value at a step.
+pub fn some_value_clause(
+    file: &[u8],
+    index: &[usize],
+    horizon: usize,
+    row: &[u64],
+    step: usize,
+    x: usize,
+    at: usize,
+) -> usize
+    requires { ⌜ Come (now file) (now index) (now row) horizon someValue step x at ⌝ }
+    ensures { λ r. ⌜ r ≡ first (at + clausesOf (taskOf (now (file .entry))) someValue x) (isFalse (now (file .entry)) horizon (now (row .entry))) ⌝ }
+{
+    let values = size(file, x);
+    if first_set(row, first_value(file, index, step, x), values) < values {
+        return at + 1;
+    }
+    at
+}
+
+// It has no two values there.
+pub fn two_values_clauses(
+    file: &[u8],
+    index: &[usize],
+    horizon: usize,
+    row: &[u64],
+    step: usize,
+    x: usize,
+    at: usize,
+) -> usize
+    requires { ⌜ Come (now file) (now index) (now row) horizon twoValues step x at ⌝ }
+    ensures { λ r. ⌜ r ≡ first (at + clausesOf (taskOf (now (file .entry))) twoValues x) (isFalse (now (file .entry)) horizon (now (row .entry))) ⌝ }
+{
+    at + first_pair(row, first_value(file, index, step, x), size(file, x))
+}
+
+// Pair i of an action's preconditions holds at a step.
+fn precondition_holds(
+    file: &[u8],
+    index: &[usize],
+    row: &[u64],
+    step: usize,
+    a: usize,
+    i: usize,
+) -> bool
+    requires { ⌜ Indexed (now file) (now index) × (step ≤ maxHorizon) × (a < actionCount (taskOf (now file))) × (i < length (action (taskOf (now file)) a .preconditions)) ⌝ }
+    ensures { λ r. ⌜ r ≡ holdsAt (now (file .entry)) (now (row .entry)) step (pair (action (taskOf (now (file .entry))) a .preconditions) i .variable) (pair (action (taskOf (now (file .entry))) a .preconditions) i .value) ⌝ }
+{
+    pair_holds(
+        file,
+        index,
+        row,
+        step,
+        precondition(file, index, nth_action(a), i),
+    )
+}
+
+// The preconditions of an action that is true at a step hold there.
+pub fn precondition_clauses(
+    file: &[u8],
+    index: &[usize],
+    horizon: usize,
+    row: &[u64],
+    step: usize,
+    a: usize,
+    at: usize,
+) -> usize
+    requires { ⌜ Come (now file) (now index) (now row) horizon preconditionsHold step a at ⌝ }
+    ensures { λ r. ⌜ r ≡ first (at + clausesOf (taskOf (now (file .entry))) preconditionsHold a) (isFalse (now (file .entry)) horizon (now (row .entry))) ⌝ }
+{
+    let count = precondition_count(file, index, nth_action(a));
+    if !acts(file, index, row, step, a) {
+        return at + count;
+    }
+    let mut i = 0;
+    while i < count {
+        if !precondition_holds(file, index, row, step, a, i) {
+            return at + i;
+        }
+        i += 1;
+    }
+    at + count
+}
+
+// Pair i of an action's effects holds at a step.
+fn effect_holds(file: &[u8], index: &[usize], row: &[u64], step: usize, a: usize, i: usize) -> bool
+    requires { ⌜ Indexed (now file) (now index) × (step ≤ maxHorizon) × (a < actionCount (taskOf (now file))) × (i < length (action (taskOf (now file)) a .effects)) ⌝ }
+    ensures { λ r. ⌜ r ≡ holdsAt (now (file .entry)) (now (row .entry)) step (pair (action (taskOf (now (file .entry))) a .effects) i .variable) (pair (action (taskOf (now (file .entry))) a .effects) i .value) ⌝ }
+{
+    pair_holds(
+        file,
+        index,
+        row,
+        step,
+        effect(file, index, nth_action(a), i),
+    )
+}
+
+// Its effects hold at the next.
+pub fn effect_clauses(
+    file: &[u8],
+    index: &[usize],
+    horizon: usize,
+    row: &[u64],
+    step: usize,
+    a: usize,
+    at: usize,
+) -> usize
+    requires { ⌜ Come (now file) (now index) (now row) horizon effectsHold step a at ⌝ }
+    ensures { λ r. ⌜ r ≡ first (at + clausesOf (taskOf (now (file .entry))) effectsHold a) (isFalse (now (file .entry)) horizon (now (row .entry))) ⌝ }
+{
+    let count = effect_count(file, index, nth_action(a));
+    if !acts(file, index, row, step, a) {
+        return at + count;
+    }
+    let mut i = 0;
+    while i < count {
+        if !effect_holds(file, index, row, step + 1, a, i) {
+            return at + i;
+        }
+        i += 1;
+    }
+    at + count
+}
+
+// No two actions are true at a step.
+pub fn two_actions_clauses(
+    file: &[u8],
+    index: &[usize],
+    horizon: usize,
+    row: &[u64],
+    step: usize,
+    at: usize,
+) -> usize
+    requires { ⌜ Come (now file) (now index) (now row) horizon twoActions step 0 at ⌝ }
+    ensures { λ r. ⌜ r ≡ first (at + clausesOf (taskOf (now (file .entry))) twoActions 0) (isFalse (now (file .entry)) horizon (now (row .entry))) ⌝ }
+{
+    let count = actions(file, index);
+    if count == 0 {
+        return at;
+    }
+    at + first_pair(row, first_action(file, index, step), count)
+}

@@ -1,0 +1,48 @@
+// The schedule that a model states.
+use crate::bits::first_action;
+use rows::first_set;
+use task::index::actions;
+ghost use mathlib.Core.Path.{_≡_};
+ghost use mathlib.Core.List.{_++_};
+ghost use Prim.Native.Nat.{_≤_};
+ghost use lib.ListN.{length, drop};
+ghost use Rattle.rules.specs.Limits.{maxHorizon};
+ghost use Rattle.rules.specs.Calls.{problemOf};
+ghost use Rattle.rules.specs.Readings.{entryOf, scheduleOf};
+ghost use Rattle.task.specs.Index.{Indexed};
+ghost use Rattle.task.specs.Numbers.{atAnyHorizon};
+ghost use Rattle.checker.specs.Order.{complete};
+
+// The entry of a step: one more than the number of its true action, 0 where there is none.
+fn entry_at(file: &[u8], index: &[usize], row: &[u64], step: usize) -> u32
+    requires { ⌜ Indexed (now file) (now index) × (step ≤ maxHorizon) ⌝ }
+    ensures { λ r. ⌜ r ≡ entryOf (atAnyHorizon (now (file .entry))) (complete (now (row .entry))) step ⌝ }
+{
+    let count = actions(file, index);
+    if count == 0 {
+        return 0;
+    }
+    let t = first_set(row, first_action(file, index, step), count);
+    if t < count {
+        return (t + 1) as u32;
+    }
+    0
+}
+
+// The entries of all steps; those behind them stay.
+pub fn write_schedule(
+    file: &[u8],
+    index: &[usize],
+    horizon: usize,
+    row: &[u64],
+    entries: &mut [u32],
+)
+    requires { ⌜ Indexed (now file) (now index) × (horizon ≤ maxHorizon) × (horizon ≤ length (now entries)) ⌝ }
+    ensures { λ _. ⌜ now (entries .exit) ≡ scheduleOf (problemOf (now (file .entry)) horizon) (complete (now (row .entry))) ++ drop horizon (now (entries .entry)) ⌝ }
+{
+    let mut step = 0;
+    while step < horizon {
+        entries[step] = entry_at(file, index, row, step);
+        step += 1;
+    }
+}

@@ -1,0 +1,165 @@
+// The search through all clauses: family by family, in each step by step, in each item by item.
+use crate::families::effect_clauses;
+use crate::families::goal_clause;
+use crate::families::precondition_clauses;
+use crate::families::some_value_clause;
+use crate::families::start_clause;
+use crate::families::two_actions_clauses;
+use crate::families::two_values_clauses;
+use crate::sizes::EFFECTS_HOLD;
+use crate::sizes::FAMILY_COUNT;
+use crate::sizes::GOAL_PAIRS;
+use crate::sizes::PRECONDITIONS_HOLD;
+use crate::sizes::SOME_VALUE;
+use crate::sizes::START_VALUES;
+use crate::sizes::TWO_VALUES;
+use crate::sizes::VALUES_STAY;
+use crate::sizes::clauses_of;
+use crate::sizes::items_of;
+use crate::sizes::step_clauses;
+use crate::sizes::steps_of;
+use crate::stays::stay_clauses;
+ghost use mathlib.Core.Path.{_≡_};
+ghost use Prim.Native.Nat.{_+_, _*_, _<_, _≤_};
+ghost use Rattle.rules.specs.Counting.{first};
+ghost use Rattle.rules.specs.Limits.{maxHorizon};
+ghost use Rattle.rules.specs.File.{taskOf};
+ghost use Rattle.rules.specs.Families.{C};
+ghost use Rattle.rules.specs.Calls.{problemOf};
+ghost use Rattle.task.specs.Index.{Indexed};
+ghost use Rattle.checker.specs.Order.{isFalse, stepsOf, clausesOf, stepClauses, Reached, Come, familyCount};
+
+// The lowest false clause up to the end of an item.
+fn in_item(
+    file: &[u8],
+    index: &[usize],
+    horizon: usize,
+    row: &[u64],
+    family: usize,
+    step: usize,
+    i: usize,
+    at: usize,
+) -> usize
+    requires { ⌜ Come (now file) (now index) (now row) horizon family step i at ⌝ }
+    ensures { λ r. ⌜ r ≡ first (at + clausesOf (taskOf (now (file .entry))) family i) (isFalse (now (file .entry)) horizon (now (row .entry))) ⌝ }
+{
+    if family == START_VALUES {
+        return start_clause(file, index, horizon, row, i, at);
+    }
+    if family == GOAL_PAIRS {
+        return goal_clause(file, index, horizon, row, i, at);
+    }
+    if family == SOME_VALUE {
+        return some_value_clause(file, index, horizon, row, step, i, at);
+    }
+    if family == TWO_VALUES {
+        return two_values_clauses(file, index, horizon, row, step, i, at);
+    }
+    if family == PRECONDITIONS_HOLD {
+        return precondition_clauses(file, index, horizon, row, step, i, at);
+    }
+    if family == EFFECTS_HOLD {
+        return effect_clauses(file, index, horizon, row, step, i, at);
+    }
+    if family == VALUES_STAY {
+        return stay_clauses(file, index, horizon, row, step, i, at);
+    }
+    two_actions_clauses(file, index, horizon, row, step, at)
+}
+
+// Up to the end of a step.
+fn in_step(
+    file: &[u8],
+    index: &[usize],
+    horizon: usize,
+    row: &[u64],
+    family: usize,
+    step: usize,
+    start: usize,
+) -> usize
+    requires { ⌜ Reached (now file) (now index) (now row) horizon family step 0 start × (family < familyCount) × (step < stepsOf horizon family) ⌝ }
+    ensures { λ r. ⌜ r ≡ first (start + stepClauses (taskOf (now (file .entry))) family) (isFalse (now (file .entry)) horizon (now (row .entry))) ⌝ }
+{
+    let items = items_of(file, index, family);
+    let mut i = 0;
+    let mut at = start;
+    while i < items {
+        let next = at + clauses_of(file, index, family, i);
+        let c = in_item(file, index, horizon, row, family, step, i, at);
+        if c < next {
+            return c;
+        }
+        at = next;
+        i += 1;
+    }
+    at
+}
+
+// Up to the end of a family.
+fn in_family(
+    file: &[u8],
+    index: &[usize],
+    horizon: usize,
+    row: &[u64],
+    family: usize,
+    start: usize,
+) -> usize
+    requires { ⌜ Reached (now file) (now index) (now row) horizon family 0 0 start × (family < familyCount) ⌝ }
+    ensures { λ r. ⌜ r ≡ first (start + stepsOf horizon family * stepClauses (taskOf (now (file .entry))) family) (isFalse (now (file .entry)) horizon (now (row .entry))) ⌝ }
+{
+    let steps = steps_of(horizon, family);
+    let width = step_clauses(file, index, family);
+    let mut step = 0;
+    let mut at = start;
+    while step < steps {
+        let next = at + width;
+        let c = in_step(file, index, horizon, row, family, step, at);
+        if c < next {
+            return c;
+        }
+        at = next;
+        step += 1;
+    }
+    at
+}
+
+// How many clauses a family has.
+fn family_clauses(file: &[u8], index: &[usize], horizon: usize, family: usize) -> usize
+    requires { ⌜ Indexed (now file) (now index) × (horizon ≤ maxHorizon) × (family < familyCount) ⌝ }
+    ensures { λ r. ⌜ r ≡ stepsOf horizon family * stepClauses (taskOf (now (file .entry))) family ⌝ }
+{
+    steps_of(horizon, family) * step_clauses(file, index, family)
+}
+
+// The lowest false clause of a model that gives every variable; C where none is false.
+pub fn lowest_false(file: &[u8], index: &[usize], horizon: usize, row: &[u64]) -> usize
+    requires { ⌜ Indexed (now file) (now index) × (horizon ≤ maxHorizon) ⌝ }
+    ensures { λ r. ⌜ r ≡ first (C (problemOf (now (file .entry)) horizon)) (isFalse (now (file .entry)) horizon (now (row .entry))) ⌝ }
+{
+    let mut family = 0;
+    let mut at = 0;
+    while family < FAMILY_COUNT {
+        let next = at + family_clauses(file, index, horizon, family);
+        let c = in_family(file, index, horizon, row, family, at);
+        if c < next {
+            return c;
+        }
+        at = next;
+        family += 1;
+    }
+    at
+}
+
+// C.
+pub fn all_clauses(file: &[u8], index: &[usize], horizon: usize) -> usize
+    requires { ⌜ Indexed (now file) (now index) × (horizon ≤ maxHorizon) ⌝ }
+    ensures { λ r. ⌜ r ≡ C (problemOf (now (file .entry)) horizon) ⌝ }
+{
+    let mut family = 0;
+    let mut count = 0;
+    while family < FAMILY_COUNT {
+        count += family_clauses(file, index, horizon, family);
+        family += 1;
+    }
+    count
+}

@@ -1,0 +1,107 @@
+// Family 7: a value that is true at the next step is true at this one, or an action that is true gives it.
+use crate::bits::first_action;
+use crate::bits::value_holds;
+use rows::first_set;
+use task::asked::effect;
+use task::asked::effect_count;
+use task::asked::size;
+use task::index::actions;
+use task::numbering::nth_action;
+use task::numbering::value_of;
+use task::numbering::variable_of;
+ghost use mathlib.Core.Path.{_≡_};
+ghost use Prim.Native.Nat.{_+_, _<_, _≤_};
+ghost use lib.ListN.{length};
+ghost use Rattle.rules.specs.Counting.{first};
+ghost use Rattle.rules.specs.Limits.{maxHorizon};
+ghost use Rattle.rules.specs.Task.{n, d, A as actionCount, action};
+ghost use Rattle.rules.specs.File.{taskOf};
+ghost use Rattle.task.specs.Index.{Indexed};
+ghost use Rattle.checker.specs.Order.{isFalse, clausesOf, Come, valuesStay};
+ghost use Rattle.checker.specs.Staying.{effectIs, givesAt, supportedAt, changesAlone};
+
+// Effect i of an action is x = v.
+fn effect_is(file: &[u8], index: &[usize], a: usize, i: usize, x: usize, v: usize) -> bool
+    requires { ⌜ Indexed (now file) (now index) × (a < actionCount (taskOf (now file))) × (i < length (action (taskOf (now file)) a .effects)) ⌝ }
+    ensures { λ r. ⌜ r ≡ effectIs (now (file .entry)) a x v i ⌝ }
+{
+    if variable_of(effect(file, index, nth_action(a), i)) == x {
+        return value_of(effect(file, index, nth_action(a), i)) == v;
+    }
+    false
+}
+
+// An action has the effect x = v.
+fn gives(file: &[u8], index: &[usize], a: usize, x: usize, v: usize) -> bool
+    requires { ⌜ Indexed (now file) (now index) × (a < actionCount (taskOf (now file))) ⌝ }
+    ensures { λ r. ⌜ r ≡ givesAt (now (file .entry)) x v a ⌝ }
+{
+    let count = effect_count(file, index, nth_action(a));
+    let mut i = 0;
+    while i < count {
+        if effect_is(file, index, a, i, x, v) {
+            return true;
+        }
+        i += 1;
+    }
+    false
+}
+
+// An action that is true at a step gives x = v; only the true ones are looked at.
+fn supported(file: &[u8], index: &[usize], row: &[u64], step: usize, x: usize, v: usize) -> bool
+    requires { ⌜ Indexed (now file) (now index) × (step ≤ maxHorizon) ⌝ }
+    ensures { λ r. ⌜ r ≡ supportedAt (now (file .entry)) (now (row .entry)) step x v ⌝ }
+{
+    let count = actions(file, index);
+    let mut a = 0;
+    while a < count {
+        let from = first_action(file, index, step);
+        let t = a + first_set(row, from + a, count - a);
+        if count <= t {
+            return false;
+        }
+        if gives(file, index, t, x, v) {
+            return true;
+        }
+        a = t + 1;
+    }
+    false
+}
+
+// A value is true at the next step and not at this one, and no action that is true gives it.
+fn changes_alone(file: &[u8], index: &[usize], row: &[u64], step: usize, x: usize, v: usize) -> bool
+    requires { ⌜ Indexed (now file) (now index) × (step + 1 ≤ maxHorizon) × (x < n (taskOf (now file))) × (v < d (taskOf (now file)) x) ⌝ }
+    ensures { λ r. ⌜ r ≡ changesAlone (now (file .entry)) (now (row .entry)) step x v ⌝ }
+{
+    if !value_holds(file, index, row, step + 1, x, v) {
+        return false;
+    }
+    if value_holds(file, index, row, step, x, v) {
+        return false;
+    }
+    !supported(file, index, row, step, x, v)
+}
+
+// No value of a variable changes alone at a step.
+pub fn stay_clauses(
+    file: &[u8],
+    index: &[usize],
+    horizon: usize,
+    row: &[u64],
+    step: usize,
+    x: usize,
+    at: usize,
+) -> usize
+    requires { ⌜ Come (now file) (now index) (now row) horizon valuesStay step x at ⌝ }
+    ensures { λ r. ⌜ r ≡ first (at + clausesOf (taskOf (now (file .entry))) valuesStay x) (isFalse (now (file .entry)) horizon (now (row .entry))) ⌝ }
+{
+    let values = size(file, x);
+    let mut v = 0;
+    while v < values {
+        if changes_alone(file, index, row, step, x, v) {
+            return at + v;
+        }
+        v += 1;
+    }
+    at + values
+}
