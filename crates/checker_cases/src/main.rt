@@ -15,9 +15,17 @@ fn print(n: u64) {
     io::write_all(1, b" ");
 }
 
+fn print_entry(entry: u32) {
+    print(entry as u64);
+}
+
 fn print_two(number: u64, detail: usize) {
     print(number);
     print(detail as u64);
+}
+
+fn print_another() {
+    io::write_all(1, b"another ");
 }
 
 fn print_refusal(why: Refusal) {
@@ -30,7 +38,7 @@ fn print_refusal(why: Refusal) {
         Refusal::FalseClause(c) => print_two(17, c),
         Refusal::Unsatisfiable => print_two(18, 0),
         Refusal::Unknown => print_two(19, 0),
-        _ => io::write_all(1, b"another "),
+        _ => print_another(),
     }
 }
 
@@ -46,10 +54,10 @@ fn finish(file: &[u8], horizon: usize, phase: Phase, given: u64, truth: u64) {
     let reading = Reading { highest: 0, phase };
     let verdict = checker::end::finish(file, horizon, reading, &[given], &[truth], &mut entries);
     print_verdict(verdict);
-    print(entries[0] as u64);
-    print(entries[1] as u64);
-    print(entries[2] as u64);
-    print(entries[3] as u64);
+    print_entry(entries[0]);
+    print_entry(entries[1]);
+    print_entry(entries[2]);
+    print_entry(entries[3]);
     io::write_all(1, b"\n");
 }
 
