@@ -4,7 +4,6 @@ use libc::STDOUT_FILENO;
 use rules::Refusal;
 use rules::Verdict;
 ghost use Prim.Native.Nat.{_≤_};
-ghost use lib.ListN.{length};
 
 const ROW_WORDS: usize = 8;
 
