@@ -1,9 +1,9 @@
 -- What the bits of a row are asked: the number is a variable's, and the bit is that of a value or of an action at a step.
 -- Assumes nothing.
-use mathlib.Core.Path.{_≡_, refl, sym, ap, ap₂, _∙_}
+use mathlib.Core.Path.{_≡_, ap, ap₂, _∙_}
 use mathlib.Core.Bool.{Bool}
 use mathlib.Core.List.{List}
-use Prim.Native.Nat.{ℕ, _<_, _≤_}
+use Prim.Native.Nat.{ℕ, _<_}
 use native.Mathlib.Omega.{arith}
 use Rattle.rules.specs.Task.{Task, n, d}
 use Rattle.rules.specs.Numbering.{valueNumber, actionNumber}
@@ -42,9 +42,6 @@ module _ (file : List ℕ) (s : ℕ) where
     acts-read a p f g hp e h k = k ∙ ap (bitOfVariable row) (h ∙ e ∙ ap (actionNumber (atAnyHorizon file) s) hp)
 
 -- a place made of a variable and one of its values is inside
-pub inside-variable : (T : Task) (x p : ℕ) → p ≡ x → x < n T → p < n T
-inside-variable T x p e h = omega arith
-
 pub inside-value : (T : Task) (x v p q : ℕ) → p ≡ x → q ≡ v → v < d T x → q < d T p
 inside-value T x v p q e f h = rw (e, f) h
 

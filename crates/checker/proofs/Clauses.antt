@@ -1,28 +1,27 @@
 -- What makes the clauses of each family false, where every variable is given.
 -- Assumes nothing.
-use mathlib.Core.Path.{_≡_, refl, sym, ap, ap₂, _∙_}
+use mathlib.Core.Path.{_≡_, refl, ap, ap₂, _∙_}
 use mathlib.Core.Logic.{⊎-elim}
 use mathlib.Core.Bool.{Bool, true, false, not, _&&_, _||_}
 use mathlib.Core.List.{List, [], _∷_}
-use Prim.Native.Nat.{ℕ, suc, _+_, _-_, _*_, _≤_, _<_}
+use Prim.Native.Nat.{ℕ, suc, _+_, _*_, _<_}
 use native.Mathlib.Omega.{arith}
 use native.Mathlib.Nat.{zero-mul}
 use lib.ListN.{length}
-use Rattle.rules.specs.Counting.{sumTo, first, table, any}
-use Rattle.rules.specs.Task.{Task, n, d, S, A, off, startValue, pair, action}
+use Rattle.rules.specs.Counting.{sumTo, table, any}
+use Rattle.rules.specs.Task.{Task, n, d, A, startValue, pair, action}
 use Rattle.rules.specs.Problem.{Problem}
 use Rattle.rules.specs.Numbering.{valueNumber, actionNumber}
-use Rattle.rules.specs.Families.{Literal, plus, minus, Clause, supporters, pairNumber, clause}
+use Rattle.rules.specs.Families.{plus, minus, Clause, supporters, pairNumber, clause}
 use Rattle.rules.specs.Counts.{pairsBelow}
 use Rattle.rules.specs.Rows.{bitOfVariable}
 use Rattle.rules.specs.Truth.{literalTrue, clauseTrue}
 use Rattle.rules.specs.File.{taskOf}
 use Rattle.rules.specs.Calls.{problemOf}
 use Rattle.rules.proofs.Bools.{either, clash}
-use Rattle.rules.proofs.Counting.{sumTo-const, any-forEach, one-of, first-before, first-at}
+use Rattle.rules.proofs.Counting.{sumTo-const, any-forEach, one-of}
 use Rattle.rules.proofs.Pairs.{PairAt}
 use Rattle.rules.proofs.ByNumber.{clausesBefore, clause1, clause2, clause3, clause4, clause5, clause6, clause7, clause8}
-use Rattle.task.specs.Numbers.{atAnyHorizon}
 use Rattle.checker.specs.Order.{holdsAt, actsAt, complete, isFalse, stepsOf, itemsOf, clausesOf, stepClauses, firstClause}
 
 first-not : (a b : Bool) → not (not a || (b || false)) ≡ (a && not b)

@@ -1,7 +1,6 @@
 -- The end of a reading, way by way.
 -- Assumes nothing.
 use mathlib.Core.Path.{_≡_, refl, sym, ap, ap₂, _∙_}
-use mathlib.Core.Logic.{⊎-elim}
 use mathlib.Core.Bool.{Bool, true, false, not, _&&_}
 use mathlib.Core.List.{List, [], _∷_, _++_}
 use Prim.Native.Nat.{ℕ, suc, _+_, _-_, _*_, _≤_, _<_}
@@ -14,9 +13,9 @@ use mir.Val.{Fits}
 use lib.Dec.{leb}
 use lib.ListN.{length, drop}
 use Rattle.rules.specs.Counting.{first}
-use Rattle.rules.specs.Answers.{Rule, demand, noneAtFault, judge, inTurn}
+use Rattle.rules.specs.Answers.{demand, noneAtFault, judge, inTurn}
 use Rattle.rules.specs.Limits.{maxHorizon, maxValues, maxActions}
-use Rattle.rules.specs.Task.{S, A}
+use Rattle.rules.specs.Task.{S}
 use Rattle.rules.specs.Problem.{Problem}
 use Rattle.rules.specs.Numbering.{stride, N}
 use Rattle.rules.specs.Families.{C, clause}
@@ -113,9 +112,6 @@ module _ (file index : List ℕ) (k : ℕ) (given isTrue : List ℕ) (ix : Index
   given-not l =
       sym (judge-found (N (problemOf file k)) (λ i. not (modelIn (lent given isTrue) .given (suc i))) (λ i. NotGiven (suc i)) _ v (omega arith) first-missing
       ∙ ap (λ v. Refused (NotGiven v)) (sym (add-one v)))
-
-  pub given-fits : v < m → Fits w64 (v + 1)
-  given-fits l = record { fits = omega (arith, variables-few file index k m ix low e) }
 
   module _ (l : m ≤ v) where
     all-given : (i : ℕ) → i < N (problemOf file k) → bitOfVariable given (suc i) ≡ true

@@ -4,14 +4,14 @@ use mathlib.Core.Path.{_≡_, refl, sym, ap, _∙_}
 use mathlib.Core.Logic.{⊎-elim}
 use mathlib.Core.Bool.{Bool, true, false}
 use mathlib.Core.List.{List}
-use Prim.Native.Nat.{ℕ, suc, _+_, _-_, _*_, _/_, _≤_, _<_}
+use Prim.Native.Nat.{ℕ, _+_, _-_, _*_, _/_, _≤_, _<_}
 use native.Mathlib.Omega.{arith}
 use native.Mathlib.Nat.{mul-le-mul}
 use mir.Syntax.{w64}
 use mir.Val.{Fits}
 use Rattle.rules.specs.Counting.{first}
 use Rattle.rules.specs.Limits.{maxActions}
-use Rattle.rules.specs.Counts.{pairsBelow, pairsBefore}
+use Rattle.rules.specs.Counts.{pairsBelow}
 use Rattle.rules.specs.Rows.{bitOfVariable}
 use Rattle.rules.proofs.Bools.{clash, below-or}
 use Rattle.rules.proofs.Counting.{first-le, first-before, first-at}

@@ -4,31 +4,30 @@ use mathlib.Core.Path.{_≡_, refl, sym, ap, ap₂, _∙_}
 use mathlib.Core.Logic.{⊎-elim}
 use mathlib.Core.Bool.{Bool, true, false, not, _&&_}
 use mathlib.Core.List.{List}
-use Prim.Native.Nat.{ℕ, suc, _+_, _-_, _*_, _≤_, _<_}
+use Prim.Native.Nat.{ℕ, suc, _+_, _*_, _≤_, _<_}
 use native.Mathlib.Omega.{arith}
 use native.Mathlib.Nat.{mul-le-mul}
 use native.Mathlib.Numerals.{add-one}
 use mir.Syntax.{w64}
 use mir.Val.{Fits}
 use lib.ListN.{length}
-use Rattle.rules.specs.Counting.{first, sumTo}
+use Rattle.rules.specs.Counting.{first}
 use Rattle.rules.specs.Limits.{maxHorizon, maxActions, maxValues, maxC}
-use Rattle.rules.specs.Task.{Task, n, d, S, A, off, startValue, pair, action}
+use Rattle.rules.specs.Task.{Task, n, d, A, startValue, pair, action}
 use Rattle.rules.specs.Numbering.{stride, valueNumber, actionNumber}
 use Rattle.rules.specs.Counts.{pairsBelow}
 use Rattle.rules.specs.Rows.{bitOfVariable}
 use Rattle.rules.specs.File.{taskOf}
-use Rattle.rules.proofs.Bools.{not-true, not-false, and-both, below-or}
+use Rattle.rules.proofs.Bools.{not-true, not-false, below-or}
 use Rattle.rules.proofs.Counting.{first-le, first-before, first-at, first-is, first-none, sumTo-part}
 use Rattle.rules.proofs.Lowest.{chunk-passed, chunk-found}
 use Rattle.rules.proofs.Valid.{WellFormed, Inside, ActionFine}
 use Rattle.rules.proofs.Files.{accepted-well-formed}
-use Rattle.rules.proofs.Pairs.{PairAt}
 use Rattle.task.specs.Index.{Indexed}
 use Rattle.task.specs.Numbers.{atAnyHorizon}
 use Rattle.rows.specs.Bits.{setFrom}
 use Rattle.rows.specs.Bound.{mostVariables}
-use Rattle.checker.specs.Order.{holdsAt, actsAt, isFalse, stepsOf, itemsOf, clausesOf, firstClause, Reached, Come, FirstPair, startValues, goalPairs, someValue, twoValues, preconditionsHold, effectsHold, valuesStay, twoActions}
+use Rattle.checker.specs.Order.{holdsAt, actsAt, isFalse, stepsOf, itemsOf, clausesOf, Come, FirstPair, startValues, goalPairs, someValue, twoValues, preconditionsHold, effectsHold, twoActions}
 use Rattle.checker.proofs.Widths.{steps-most, item-few}
 use Rattle.checker.proofs.Clauses.{false-start, false-goal, some-true, some-false, false-values, false-precondition, false-effect, false-actions}
 

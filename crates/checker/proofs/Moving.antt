@@ -9,7 +9,7 @@ use native.Mathlib.Nat.{suc-mul, zero-mul}
 use mir.Syntax.{w64}
 use mir.Val.{Fits}
 use Rattle.rules.specs.Counting.{first, sumTo}
-use Rattle.rules.specs.Limits.{maxHorizon, maxC}
+use Rattle.rules.specs.Limits.{maxHorizon}
 use Rattle.rules.specs.Task.{Task}
 use Rattle.rules.specs.Families.{C}
 use Rattle.rules.specs.File.{taskOf}
@@ -50,9 +50,6 @@ module _ (file index row : List ℕ) (k : ℕ) where
   module _ (f s i at : ℕ) (c : Come file index row k f s i at) where
     pub come-same : (g : ℕ) → f ≡ g → Come file index row k g s i at
     come-same g e = rw e at c
-
-    no-step : stepsOf k f ≡ 1 → s ≡ 0
-    no-step e = omega (arith, c .step)
 
     pub come-start : f ≡ 0 → Come file index row k 0 0 i at
     unfolding stepsOf

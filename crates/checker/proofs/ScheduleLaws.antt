@@ -1,28 +1,25 @@
 -- The schedule that a model states, entry by entry.
 -- Assumes nothing.
 use mathlib.Core.Path.{_≡_, refl, sym, ap, ap₂, _∙_}
-use mathlib.Core.Bool.{Bool, true, false, cond}
+use mathlib.Core.Bool.{true, cond}
 use mathlib.Core.List.{List, [], _∷_, _++_, append-assoc}
 use Prim.Native.Nat.{ℕ, suc, _+_, _≤_, _<_}
 use native.Mathlib.Omega.{arith}
 use native.Mathlib.Numerals.{add-one}
 use borrow.Author.Tests.{lt-ltb, le-ltb}
-use mir.Syntax.{w32, w64}
+use mir.Syntax.{w32}
 use mir.Val.{Fits}
-use lib.Dec.{ltb}
 use lib.ListN.{length, getD, set, drop}
 use lib.Seq.{set-at, drop-cons}
 use Rattle.rules.specs.Counting.{first, table, forEach}
-use Rattle.rules.specs.Limits.{maxHorizon}
 use Rattle.rules.specs.Task.{Task, A}
 use Rattle.rules.specs.Numbering.{actionNumber}
 use Rattle.rules.specs.Rows.{bitOfVariable}
 use Rattle.rules.specs.Truth.{literalTrue}
-use Rattle.rules.specs.Families.{plus}
 use Rattle.rules.specs.File.{taskOf}
 use Rattle.rules.specs.Calls.{problemOf}
 use Rattle.rules.specs.Readings.{trueAction, entryOf, scheduleOf}
-use Rattle.rules.proofs.Counting.{first-ext, first-le, length-table}
+use Rattle.rules.proofs.Counting.{first-ext, length-table}
 use Rattle.rules.proofs.Files.{accepted-well-formed}
 use Rattle.task.specs.Index.{Indexed}
 use Rattle.task.specs.Numbers.{atAnyHorizon}

@@ -4,25 +4,24 @@ use mathlib.Core.Path.{_≡_, refl, sym, ap, ap₂, _∙_}
 use mathlib.Core.Logic.{⊎-elim}
 use mathlib.Core.Bool.{Bool, true, false, not, _&&_, _||_}
 use mathlib.Core.List.{List, [], _∷_}
-use Prim.Native.Nat.{ℕ, suc, _+_, _-_, _*_, _≤_, _<_}
+use Prim.Native.Nat.{ℕ, suc, _+_, _-_, _≤_, _<_}
 use native.Mathlib.Omega.{arith}
 use native.Mathlib.Numerals.{add-one}
 use borrow.Author.Tests.{lt-ltb, le-ltb, ltb-true, eq-eqb, ne-eqb}
 use mir.Syntax.{w64}
 use mir.Val.{Fits}
-use lib.Dec.{eqb, ltb}
+use lib.Dec.{eqb}
 use lib.ListN.{length}
-use Rattle.rules.specs.Counting.{first, forEach, any, when}
+use Rattle.rules.specs.Counting.{first, any, when}
 use Rattle.rules.specs.Limits.{maxHorizon, maxActions}
-use Rattle.rules.specs.Task.{Task, Pair, n, d, A, pair, action}
-use Rattle.rules.specs.Problem.{Problem}
+use Rattle.rules.specs.Task.{Task, n, d, A, pair, action}
 use Rattle.rules.specs.Numbering.{actionNumber}
 use Rattle.rules.specs.Families.{plus, gives, supporters}
 use Rattle.rules.specs.Rows.{bitOfVariable}
 use Rattle.rules.specs.Truth.{literalTrue}
 use Rattle.rules.specs.File.{taskOf}
 use Rattle.rules.specs.Calls.{problemOf}
-use Rattle.rules.proofs.Bools.{either, clash, and-left, and-right, and-both, same-truth, not-true, not-false, below-or}
+use Rattle.rules.proofs.Bools.{either, clash, and-both, same-truth, not-true, not-false, below-or}
 use Rattle.rules.proofs.Counting.{first-le, first-before, first-at, first-is, first-none, any-at, any-where, any-forEach, one-of}
 use Rattle.rules.proofs.Files.{accepted-well-formed}
 use Rattle.task.specs.Index.{Indexed}

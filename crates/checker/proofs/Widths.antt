@@ -1,10 +1,10 @@
 -- How many steps, items and clauses a family has, way by way, and that all clauses together are few.
 -- Assumes nothing.
-use mathlib.Core.Path.{_≡_, refl, sym, ap, ap₂, _∙_}
+use mathlib.Core.Path.{_≡_, refl, ap, _∙_}
 use mathlib.Core.List.{List}
 use Prim.Native.Nat.{ℕ, zero, suc, _+_, _*_, _≤_, _<_}
 use native.Mathlib.Omega.{arith}
-use native.Mathlib.Nat.{mul-le-mul-right, suc-mul, zero-mul, one-mul}
+use native.Mathlib.Nat.{mul-le-mul-right, suc-mul}
 use lib.ListN.{length, getD}
 use Rattle.rules.specs.Counting.{sumTo}
 use Rattle.rules.specs.Limits.{maxVariables, maxActions, maxHorizon, maxC}
@@ -20,7 +20,7 @@ use Rattle.rules.proofs.Bounds.{C-bound}
 use Rattle.rules.proofs.Files.{accepted-well-formed}
 use Rattle.rules.proofs.ByNumber.{clausesBefore}
 use Rattle.task.specs.Index.{Indexed, valuePairsBefore, preconditionsBefore, effectsBefore}
-use Rattle.checker.specs.Order.{stepsOf, itemsOf, clausesOf, stepClauses, firstClause, familyCount, Come, Reached}
+use Rattle.checker.specs.Order.{stepsOf, itemsOf, clausesOf, stepClauses, firstClause, familyCount}
 
 -- ---- steps
 

@@ -1,6 +1,7 @@
+-- `acts` meets its contract.
+-- Assumes nothing.
 use Rattle.checker.proofs.Asked.{action-positive, acts-read}
 use borrow.Author.Needs.{needs}
-use native.Mathlib.Omega.{arith}
 use Rattle.checker.proofs.bits.acts.Statement.{statement}
 use Rattle.checker.proofs.bits.acts.Tie as tie
 

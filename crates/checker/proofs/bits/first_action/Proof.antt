@@ -1,6 +1,7 @@
+-- `first_action` meets its contract.
+-- Assumes nothing.
 use Rattle.checker.proofs.Asked.{action-first}
 use borrow.Author.Needs.{needs}
-use native.Mathlib.Omega.{arith}
 use Rattle.checker.proofs.bits.first_action.Statement.{statement}
 use Rattle.checker.proofs.bits.first_action.Tie as tie
 

@@ -1,6 +1,7 @@
+-- `first_value` meets its contract.
+-- Assumes nothing.
 use Rattle.checker.proofs.Asked.{inside-first, value-first}
 use borrow.Author.Needs.{needs}
-use native.Mathlib.Omega.{arith}
 use Rattle.checker.proofs.bits.first_value.Statement.{statement}
 use Rattle.checker.proofs.bits.first_value.Tie as tie
 

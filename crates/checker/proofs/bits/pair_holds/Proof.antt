@@ -1,6 +1,7 @@
+-- `pair_holds` meets its contract.
+-- Assumes nothing.
 use Rattle.checker.proofs.Asked.{value-positive, holds-read}
 use borrow.Author.Needs.{needs}
-use native.Mathlib.Omega.{arith}
 use Rattle.checker.proofs.bits.pair_holds.Statement.{statement}
 use Rattle.checker.proofs.bits.pair_holds.Tie as tie
 

@@ -1,6 +1,7 @@
+-- `value_holds` meets its contract.
+-- Assumes nothing.
 use Rattle.checker.proofs.Asked.{inside-value, holds-same}
 use borrow.Author.Needs.{needs}
-use native.Mathlib.Omega.{arith}
 use Rattle.checker.proofs.bits.value_holds.Statement.{statement}
 use Rattle.checker.proofs.bits.value_holds.Tie as tie
 

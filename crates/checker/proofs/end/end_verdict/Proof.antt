@@ -1,6 +1,7 @@
+-- `end_verdict` meets its contract.
+-- Assumes nothing.
 use Rattle.checker.proofs.EndLaws.{no-room, status-right, status-wrong}
 use borrow.Author.Needs.{needs}
-use native.Mathlib.Omega.{arith}
 use Rattle.checker.proofs.end.end_verdict.Statement.{statement}
 use Rattle.checker.proofs.end.end_verdict.Tie as tie
 

@@ -1,6 +1,7 @@
+-- `finish` meets its contract.
+-- Assumes nothing.
 use Rattle.checker.proofs.EndLaws.{early-kept, end-accepted, end-early, end-same, entries-room, file-right, horizon-right, index-right, late-kept, late-stated}
 use borrow.Author.Needs.{needs}
-use native.Mathlib.Omega.{arith}
 use Rattle.checker.proofs.end.finish.Statement.{statement}
 use Rattle.checker.proofs.end.finish.Tie as tie
 

@@ -1,6 +1,7 @@
+-- `formula_variables` meets its contract.
+-- Assumes nothing.
 use Rattle.checker.proofs.EndLaws.{steps-fit, variables-are, variables-fit}
 use borrow.Author.Needs.{needs}
-use native.Mathlib.Omega.{arith}
 use Rattle.checker.proofs.end.formula_variables.Statement.{statement}
 use Rattle.checker.proofs.end.formula_variables.Tie as tie
 

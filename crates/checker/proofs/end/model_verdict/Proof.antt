@@ -1,6 +1,7 @@
+-- `model_verdict` meets its contract.
+-- Assumes nothing.
 use Rattle.checker.proofs.EndLaws.{clause-false, clauses-true, given-not, variables-few}
 use borrow.Author.Needs.{needs}
-use native.Mathlib.Omega.{arith}
 use Rattle.checker.proofs.end.model_verdict.Statement.{statement}
 use Rattle.checker.proofs.end.model_verdict.Tie as tie
 

@@ -1,6 +1,7 @@
+-- `problem_verdict` meets its contract.
+-- Assumes nothing.
 use Rattle.checker.proofs.EndLaws.{file-wrong, horizon-wrong, problem-right}
 use borrow.Author.Needs.{needs}
-use native.Mathlib.Omega.{arith}
 use Rattle.checker.proofs.end.problem_verdict.Statement.{statement}
 use Rattle.checker.proofs.end.problem_verdict.Tie as tie
 

@@ -1,6 +1,7 @@
+-- `room_fits` meets its contract.
+-- Assumes nothing.
 use Rattle.checker.proofs.EndLaws.{given-short, rows-long, true-short}
 use borrow.Author.Needs.{needs}
-use native.Mathlib.Omega.{arith}
 use Rattle.checker.proofs.end.room_fits.Statement.{statement}
 use Rattle.checker.proofs.end.room_fits.Tie as tie
 

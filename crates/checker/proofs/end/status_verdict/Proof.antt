@@ -1,6 +1,7 @@
+-- `status_verdict` meets its contract.
+-- Assumes nothing.
 use Rattle.checker.proofs.EndLaws.{said-closed, said-none, said-open, said-unknown, said-unsatisfiable}
 use borrow.Author.Needs.{needs}
-use native.Mathlib.Omega.{arith}
 use Rattle.checker.proofs.end.status_verdict.Statement.{statement}
 use Rattle.checker.proofs.end.status_verdict.Tie as tie
 

@@ -1,10 +1,11 @@
+-- `effect_clauses` meets its contract. The loop's invariant: none of the first i pairs makes a clause false.
+-- Assumes nothing.
 use mathlib.Core.Path.{_≡_}
 use Prim.Native.Nat.{_≤_, _+_, _-_}
 use Rattle.rules.specs.Counting.{first}
 use Rattle.checker.specs.Order.{isFalse}
 use Rattle.checker.proofs.ItemLaws.{effect-action, effect-again, effect-all, effect-fails, effect-fits, effect-idle, effect-item, effect-next, effect-step, effect-there, pairs-yet, step-low}
 use borrow.Author.Needs.{needs}
-use native.Mathlib.Omega.{arith}
 use Rattle.checker.proofs.families.effect_clauses.Statement.{statement}
 use Rattle.checker.proofs.families.effect_clauses.Tie as tie
 

@@ -1,6 +1,7 @@
+-- `effect_holds` meets its contract.
+-- Assumes nothing.
 use Rattle.checker.proofs.ItemLaws.{effect-asked, effect-read, effect-value, effect-variable}
 use borrow.Author.Needs.{needs}
-use native.Mathlib.Omega.{arith}
 use Rattle.checker.proofs.families.effect_holds.Statement.{statement}
 use Rattle.checker.proofs.families.effect_holds.Tie as tie
 

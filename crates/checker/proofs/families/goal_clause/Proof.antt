@@ -1,6 +1,7 @@
+-- `goal_clause` meets its contract.
+-- Assumes nothing.
 use Rattle.checker.proofs.ItemLaws.{goal-false, goal-fits, goal-item, goal-true, goal-value, goal-variable}
 use borrow.Author.Needs.{needs}
-use native.Mathlib.Omega.{arith}
 use Rattle.checker.proofs.families.goal_clause.Statement.{statement}
 use Rattle.checker.proofs.families.goal_clause.Tie as tie
 

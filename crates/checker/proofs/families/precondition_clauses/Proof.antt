@@ -1,10 +1,11 @@
+-- `precondition_clauses` meets its contract. The loop's invariant: none of the first i pairs makes a clause false.
+-- Assumes nothing.
 use mathlib.Core.Path.{_≡_}
 use Prim.Native.Nat.{_≤_, _+_, _-_}
 use Rattle.rules.specs.Counting.{first}
 use Rattle.checker.specs.Order.{isFalse}
 use Rattle.checker.proofs.ItemLaws.{pairs-yet, precondition-action, precondition-again, precondition-all, precondition-fails, precondition-fits, precondition-idle, precondition-item, precondition-there, step-low}
 use borrow.Author.Needs.{needs}
-use native.Mathlib.Omega.{arith}
 use Rattle.checker.proofs.families.precondition_clauses.Statement.{statement}
 use Rattle.checker.proofs.families.precondition_clauses.Tie as tie
 

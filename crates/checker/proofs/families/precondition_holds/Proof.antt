@@ -1,6 +1,7 @@
+-- `precondition_holds` meets its contract.
+-- Assumes nothing.
 use Rattle.checker.proofs.ItemLaws.{precondition-asked, precondition-read, precondition-value, precondition-variable}
 use borrow.Author.Needs.{needs}
-use native.Mathlib.Omega.{arith}
 use Rattle.checker.proofs.families.precondition_holds.Statement.{statement}
 use Rattle.checker.proofs.families.precondition_holds.Tie as tie
 

@@ -1,6 +1,7 @@
+-- `some_value_clause` meets its contract.
+-- Assumes nothing.
 use Rattle.checker.proofs.ItemLaws.{some-fits, some-found, some-item, some-missing, step-low, value-from, values-room}
 use borrow.Author.Needs.{needs}
-use native.Mathlib.Omega.{arith}
 use Rattle.checker.proofs.families.some_value_clause.Statement.{statement}
 use Rattle.checker.proofs.families.some_value_clause.Tie as tie
 

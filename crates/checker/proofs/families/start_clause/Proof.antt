@@ -1,6 +1,7 @@
+-- `start_clause` meets its contract.
+-- Assumes nothing.
 use Rattle.checker.proofs.ItemLaws.{start-false, start-fits, start-inside, start-item, start-true}
 use borrow.Author.Needs.{needs}
-use native.Mathlib.Omega.{arith}
 use Rattle.checker.proofs.families.start_clause.Statement.{statement}
 use Rattle.checker.proofs.families.start_clause.Tie as tie
 

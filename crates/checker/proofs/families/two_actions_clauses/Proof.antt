@@ -1,7 +1,8 @@
+-- `two_actions_clauses` meets its contract.
+-- Assumes nothing.
 use Rattle.checker.proofs.Widths.{few-actions}
 use Rattle.checker.proofs.ItemLaws.{action-from, actions-fits, actions-lowest, actions-room, no-actions, some-actions, step-low}
 use borrow.Author.Needs.{needs}
-use native.Mathlib.Omega.{arith}
 use Rattle.checker.proofs.families.two_actions_clauses.Statement.{statement}
 use Rattle.checker.proofs.families.two_actions_clauses.Tie as tie
 

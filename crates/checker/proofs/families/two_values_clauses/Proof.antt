@@ -1,7 +1,8 @@
+-- `two_values_clauses` meets its contract.
+-- Assumes nothing.
 use Rattle.checker.proofs.Widths.{few-values}
 use Rattle.checker.proofs.ItemLaws.{step-low, two-fits, two-item, two-lowest, value-from, values-room}
 use borrow.Author.Needs.{needs}
-use native.Mathlib.Omega.{arith}
 use Rattle.checker.proofs.families.two_values_clauses.Statement.{statement}
 use Rattle.checker.proofs.families.two_values_clauses.Tie as tie
 

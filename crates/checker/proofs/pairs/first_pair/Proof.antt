@@ -1,6 +1,7 @@
+-- `first_pair` meets its contract.
+-- Assumes nothing.
 use Rattle.checker.proofs.FirstTwo.{none-set, second-fits, one-set, before-fits, number-fits, two-set}
 use borrow.Author.Needs.{needs}
-use native.Mathlib.Omega.{arith}
 use Rattle.checker.proofs.pairs.first_pair.Statement.{statement}
 use Rattle.checker.proofs.pairs.first_pair.Tie as tie
 

@@ -1,6 +1,7 @@
+-- `pairs_below` meets its contract.
+-- Assumes nothing.
 use Rattle.checker.proofs.FirstTwo.{pairs-none, product-fits}
 use borrow.Author.Needs.{needs}
-use native.Mathlib.Omega.{arith}
 use Rattle.checker.proofs.pairs.pairs_below.Statement.{statement}
 use Rattle.checker.proofs.pairs.pairs_below.Tie as tie
 

@@ -1,7 +1,8 @@
+-- `entry_at` meets its contract.
+-- Assumes nothing.
 use Rattle.checker.proofs.ItemLaws.{action-from, actions-room}
 use Rattle.checker.proofs.ScheduleLaws.{entry-idle, entry-none, entry-small, entry-some}
 use borrow.Author.Needs.{needs}
-use native.Mathlib.Omega.{arith}
 use Rattle.checker.proofs.schedule.entry_at.Statement.{statement}
 use Rattle.checker.proofs.schedule.entry_at.Tie as tie
 

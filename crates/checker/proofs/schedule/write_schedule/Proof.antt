@@ -1,3 +1,5 @@
+-- `write_schedule` meets its contract. The loop's invariant: the entries of the steps passed are written, and those behind are as found.
+-- Assumes nothing.
 use mathlib.Core.Path.{_≡_}
 use mathlib.Core.List.{_++_}
 use Prim.Native.Nat.{_≤_, _-_}
@@ -9,7 +11,6 @@ use Rattle.checker.specs.Order.{complete}
 use Rattle.checker.proofs.ScheduleLaws.{entries-more}
 use Rattle.checker.proofs.ScheduleLaws.{entries-all, entries-none}
 use borrow.Author.Needs.{needs}
-use native.Mathlib.Omega.{arith}
 use Rattle.checker.proofs.schedule.write_schedule.Statement.{statement}
 use Rattle.checker.proofs.schedule.write_schedule.Tie as tie
 

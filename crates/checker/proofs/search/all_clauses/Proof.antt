@@ -1,3 +1,5 @@
+-- `all_clauses` meets its contract. The loop's invariant: so many clauses stand before the family.
+-- Assumes nothing.
 use mathlib.Core.Path.{_≡_}
 use Prim.Native.Nat.{_≤_, _-_}
 use Rattle.rules.specs.File.{taskOf}
@@ -5,7 +7,6 @@ use Rattle.rules.proofs.ByNumber.{clausesBefore}
 use Rattle.checker.specs.Order.{familyCount}
 use Rattle.checker.proofs.Moving.{count-all, count-fits, count-more, count-yet}
 use borrow.Author.Needs.{needs}
-use native.Mathlib.Omega.{arith}
 use Rattle.checker.proofs.search.all_clauses.Statement.{statement}
 use Rattle.checker.proofs.search.all_clauses.Tie as tie
 

@@ -1,6 +1,7 @@
+-- `family_clauses` meets its contract.
+-- Assumes nothing.
 use Rattle.checker.proofs.Moving.{product-few, product-is}
 use borrow.Author.Needs.{needs}
-use native.Mathlib.Omega.{arith}
 use Rattle.checker.proofs.search.family_clauses.Statement.{statement}
 use Rattle.checker.proofs.search.family_clauses.Tie as tie
 

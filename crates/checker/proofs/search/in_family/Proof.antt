@@ -1,8 +1,9 @@
+-- `in_family` meets its contract. The loop's invariant: the search has come to the step, and found nothing false before it.
+-- Assumes nothing.
 use Prim.Native.Nat.{_≤_, _-_}
 use Rattle.checker.specs.Order.{Reached}
 use Rattle.checker.proofs.Moving.{step-fits, step-found, step-passed, step-there, steps-done}
 use borrow.Author.Needs.{needs}
-use native.Mathlib.Omega.{arith}
 use Rattle.checker.proofs.search.in_family.Statement.{statement}
 use Rattle.checker.proofs.search.in_family.Tie as tie
 

@@ -1,6 +1,7 @@
+-- `in_item` meets its contract.
+-- Assumes nothing.
 use Rattle.checker.proofs.Moving.{answer-actions, answer-same, come-actions, come-goal, come-same, come-start}
 use borrow.Author.Needs.{needs}
-use native.Mathlib.Omega.{arith}
 use Rattle.checker.proofs.search.in_item.Statement.{statement}
 use Rattle.checker.proofs.search.in_item.Tie as tie
 

@@ -1,8 +1,9 @@
+-- `in_step` meets its contract. The loop's invariant: the search has come to item i, and found nothing false before it.
+-- Assumes nothing.
 use Prim.Native.Nat.{_≤_, _-_}
 use Rattle.checker.specs.Order.{Reached}
 use Rattle.checker.proofs.Moving.{come-here, item-fits, item-found, item-passed, item-there, items-done}
 use borrow.Author.Needs.{needs}
-use native.Mathlib.Omega.{arith}
 use Rattle.checker.proofs.search.in_step.Statement.{statement}
 use Rattle.checker.proofs.search.in_step.Tie as tie
 

@@ -1,8 +1,9 @@
+-- `lowest_false` meets its contract. The loop's invariant: the search has come to the family, and found nothing false before it.
+-- Assumes nothing.
 use Prim.Native.Nat.{_≤_, _-_}
 use Rattle.checker.specs.Order.{Reached, familyCount}
 use Rattle.checker.proofs.Moving.{families-done, family-fits, family-found, family-passed, start-here}
 use borrow.Author.Needs.{needs}
-use native.Mathlib.Omega.{arith}
 use Rattle.checker.proofs.search.lowest_false.Statement.{statement}
 use Rattle.checker.proofs.search.lowest_false.Tie as tie
 

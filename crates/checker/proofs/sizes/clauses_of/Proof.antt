@@ -1,6 +1,7 @@
+-- `clauses_of` meets its contract.
+-- Assumes nothing.
 use Rattle.checker.proofs.Widths.{few-values, few-actions, item-variable, item-precondition, item-effect, item-stay, clauses-one, clauses-values, clauses-preconditions, clauses-effects, clauses-stay, clauses-actions}
 use borrow.Author.Needs.{needs}
-use native.Mathlib.Omega.{arith}
 use Rattle.checker.proofs.sizes.clauses_of.Statement.{statement}
 use Rattle.checker.proofs.sizes.clauses_of.Tie as tie
 

@@ -1,6 +1,7 @@
+-- `items_of` meets its contract.
+-- Assumes nothing.
 use Rattle.checker.proofs.Widths.{items-goals, items-variables, items-actions, items-stay, items-one}
 use borrow.Author.Needs.{needs}
-use native.Mathlib.Omega.{arith}
 use Rattle.checker.proofs.sizes.items_of.Statement.{statement}
 use Rattle.checker.proofs.sizes.items_of.Tie as tie
 

@@ -1,6 +1,7 @@
+-- `step_clauses` meets its contract.
+-- Assumes nothing.
 use Rattle.checker.proofs.Widths.{few-variables, few-actions, step-goals, step-variables, step-values, step-preconditions, step-effects, step-stay, step-actions}
 use borrow.Author.Needs.{needs}
-use native.Mathlib.Omega.{arith}
 use Rattle.checker.proofs.sizes.step_clauses.Statement.{statement}
 use Rattle.checker.proofs.sizes.step_clauses.Tie as tie
 

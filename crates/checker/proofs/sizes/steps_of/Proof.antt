@@ -1,6 +1,7 @@
+-- `steps_of` meets its contract.
+-- Assumes nothing.
 use Rattle.checker.proofs.Widths.{steps-one, steps-states, steps-moves}
 use borrow.Author.Needs.{needs}
-use native.Mathlib.Omega.{arith}
 use Rattle.checker.proofs.sizes.steps_of.Statement.{statement}
 use Rattle.checker.proofs.sizes.steps_of.Tie as tie
 

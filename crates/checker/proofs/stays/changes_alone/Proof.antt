@@ -1,6 +1,7 @@
+-- `changes_alone` meets its contract.
+-- Assumes nothing.
 use Rattle.checker.proofs.StayLaws.{already, changed, not-later}
 use borrow.Author.Needs.{needs}
-use native.Mathlib.Omega.{arith}
 use Rattle.checker.proofs.stays.changes_alone.Statement.{statement}
 use Rattle.checker.proofs.stays.changes_alone.Tie as tie
 

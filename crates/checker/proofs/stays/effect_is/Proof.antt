@@ -1,7 +1,8 @@
+-- `effect_is` meets its contract.
+-- Assumes nothing.
 use Rattle.checker.proofs.ItemLaws.{effect-asked}
 use Rattle.checker.proofs.StayLaws.{effect-other, effect-same}
 use borrow.Author.Needs.{needs}
-use native.Mathlib.Omega.{arith}
 use Rattle.checker.proofs.stays.effect_is.Statement.{statement}
 use Rattle.checker.proofs.stays.effect_is.Tie as tie
 

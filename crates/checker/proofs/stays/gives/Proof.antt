@@ -1,3 +1,5 @@
+-- `gives` meets its contract. The loop's invariant: none of the first i effects is x = v.
+-- Assumes nothing.
 use Rattle.rules.proofs.Loops.{none-yet, none-more}
 use mathlib.Core.Path.{_≡_}
 use Prim.Native.Nat.{_≤_, _+_, _-_}
@@ -5,7 +7,6 @@ use Rattle.rules.specs.Counting.{first}
 use Rattle.checker.specs.Staying.{effectIs}
 use Rattle.checker.proofs.StayLaws.{given-found, given-none, given-there}
 use borrow.Author.Needs.{needs}
-use native.Mathlib.Omega.{arith}
 use Rattle.checker.proofs.stays.gives.Statement.{statement}
 use Rattle.checker.proofs.stays.gives.Tie as tie
 

@@ -1,3 +1,5 @@
+-- `stay_clauses` meets its contract. The loop's invariant: no value below v changes alone.
+-- Assumes nothing.
 use Rattle.checker.proofs.ItemLaws.{pairs-yet}
 use mathlib.Core.Path.{_≡_}
 use Prim.Native.Nat.{_≤_, _+_, _-_}
@@ -5,7 +7,6 @@ use Rattle.rules.specs.Counting.{first}
 use Rattle.checker.specs.Order.{isFalse}
 use Rattle.checker.proofs.StayLaws.{stay-again, stay-all, stay-fails, stay-fits, stay-item, stay-step, stay-there}
 use borrow.Author.Needs.{needs}
-use native.Mathlib.Omega.{arith}
 use Rattle.checker.proofs.stays.stay_clauses.Statement.{statement}
 use Rattle.checker.proofs.stays.stay_clauses.Tie as tie
 

@@ -1,3 +1,5 @@
+-- `supported` meets its contract. The loop's invariant: no action below a is true and gives x = v.
+-- Assumes nothing.
 use Rattle.rules.proofs.Loops.{none-yet}
 use mathlib.Core.Path.{_≡_}
 use Prim.Native.Nat.{_≤_, _+_, _-_}
@@ -5,7 +7,6 @@ use Rattle.rules.specs.Counting.{first}
 use Rattle.checker.specs.Staying.{supportsAt}
 use Rattle.checker.proofs.StayLaws.{action-there, from-fits, from-positive, from-room, later-fits, next-fits, some-action, support-again, support-end, support-found, support-none}
 use borrow.Author.Needs.{needs}
-use native.Mathlib.Omega.{arith}
 use Rattle.checker.proofs.stays.supported.Statement.{statement}
 use Rattle.checker.proofs.stays.supported.Tie as tie
 
