@@ -1,18 +1,18 @@
 -- The calls' answers: which rule decides each, in their order.
 -- Assumes nothing.
 use mathlib.Core.Path.{_≡_, refl, sym, ap, _∙_}
-use mathlib.Core.List.{List, [], _∷_, map}
+use mathlib.Core.List.{List, [], _∷_}
 use Prim.Native.Nat.{ℕ, _≤_, _<_}
 use native.Mathlib.Omega.{arith}
 use borrow.Author.Tests.{leb-true, le-leb, lt-leb, lt-ltb, le-ltb}
 use lib.Dec.{leb, ltb}
 use lib.IntN.{ℤ}
-use lib.ListN.{length, length-map}
+use lib.ListN.{length}
 use Rattle.rules.specs.Limits.{maxHorizon}
 use Rattle.rules.specs.Answers.{demand, judge, inTurn}
 use Rattle.rules.specs.Problem.{problem}
 use Rattle.rules.specs.Numbering.{N}
-use Rattle.rules.specs.Families.{signed, C, clause}
+use Rattle.rules.specs.Families.{C, clause}
 use Rattle.rules.specs.File.{taskOf, fileRules, fileVerdict}
 use Rattle.rules.specs.Calls.{problemOf, problemRules, clauseRules, roomRule, lentAfter, problemVerdict, clauseSigned, clauseVerdict}
 use Rattle.rules.specs.declared.Refusal.{Refusal}

@@ -1,13 +1,12 @@
 -- The place of a clause: its family by the counts before it, and in its family what the rules say of clause q of a step.
 -- Assumes nothing.
-use mathlib.Core.Path.{_≡_, refl, sym, ap, _∙_}
+use mathlib.Core.Path.{_≡_, refl, sym, ap}
 use mathlib.Core.Logic.{⊎-elim}
 use mathlib.Core.List.{List}
-use Prim.Native.Nat.{ℕ, zero, suc, _+_, _-_, _*_, _/_, _%_, _≤_, _<_}
+use Prim.Native.Nat.{ℕ, suc, _+_, _-_, _*_, _/_, _%_, _≤_, _<_}
 use native.Mathlib.Omega.{arith}
 use native.Mathlib.Numerals.{add-one}
 use lib.ListN.{length}
-use Rattle.rules.specs.Counting.{sumTo}
 use Rattle.rules.specs.Limits.{maxVariables, maxActions}
 use Rattle.rules.specs.Task.{Task, n, d, off, S, A, action}
 use Rattle.rules.specs.Problem.{Problem, problem}
@@ -27,7 +26,7 @@ use Rattle.formula.specs.declared.place.Place.{Place}
 use Rattle.formula.specs.declared.place.Place.the-variants.{Start, Goal, AllValues, TwoValues, Precondition, Effect, Stays, TwoActions}
 use Rattle.formula.specs.Parts.{InPart}
 use Rattle.formula.specs.InFamily.{familyCount, stepsOf, widthOf, countOf, IsAt, numberIn, PlacedIn}
-use Rattle.formula.proofs.Counted.{before-none, before-next, before-all, count-parts, last-family}
+use Rattle.formula.proofs.Counted.{before-none, before-next, before-all, count-parts}
 
 -- ---- the family
 

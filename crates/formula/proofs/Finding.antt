@@ -1,6 +1,6 @@
 -- Two rows bracket the row at which a column passes q, and columns of an index are running sums.
 -- Assumes nothing.
-use mathlib.Core.Path.{_≡_, sym, ap, _∙_}
+use mathlib.Core.Path.{_≡_, ap, _∙_}
 use mathlib.Core.List.{List}
 use Prim.Native.Nat.{ℕ, zero, suc, _+_, _-_, _*_, _/_, _≤_, _<_}
 use native.Mathlib.Omega.{arith}
@@ -12,7 +12,7 @@ use Rattle.rules.specs.Task.{Task, n, d, S, A, action}
 use Rattle.rules.specs.File.{taskOf}
 use Rattle.rules.proofs.Valid.{WellFormed}
 use Rattle.rules.proofs.Files.{accepted-well-formed}
-use Rattle.task.specs.Index.{Indexed, variableWidth, actionWidth, actionsAt, indexLength, valuePairsBefore, preconditionsBefore, effectsBefore}
+use Rattle.task.specs.Index.{Indexed, variableWidth, actionWidth, actionsAt, valuePairsBefore, preconditionsBefore, effectsBefore}
 use Rattle.task.proofs.Asking.{index-long, offset-asked, value-pairs-asked, preconditions-asked, effects-asked}
 use Rattle.formula.specs.Parts.{column, Spans, Passes, InPart}
 

@@ -1,10 +1,9 @@
 -- Formula numbers of a file's problem: the numbers of the reader's numbering, and within N.
 -- Assumes nothing.
-use mathlib.Core.Path.{_≡_, ap, _∙_}
+use mathlib.Core.Path.{_≡_, _∙_}
 use mathlib.Core.List.{List}
 use Prim.Native.Nat.{ℕ, _≤_, _<_}
 use native.Mathlib.Omega.{arith}
-use native.Mathlib.Nat.{le-trans}
 use Rattle.rules.specs.Limits.{maxHorizon, maxN}
 use Rattle.rules.specs.Task.{Task, n, d, A}
 use Rattle.rules.specs.Problem.{Problem, problem}

@@ -9,7 +9,7 @@ use mir.Syntax.{w64}
 use mir.Val.{Fits}
 use lib.IntN.{ℤ}
 use lib.ListN.{length}
-use Rattle.rules.specs.Counting.{forEach, table}
+use Rattle.rules.specs.Counting.{forEach}
 use Rattle.rules.specs.Task.{Pair, Task, n, d, A, startValue, pair, action}
 use Rattle.rules.specs.Problem.{Problem, problem}
 use Rattle.rules.specs.Numbering.{valueNumber, actionNumber}
@@ -23,7 +23,7 @@ use Rattle.formula.specs.declared.place.Place.{Place}
 use Rattle.formula.specs.declared.place.Place.the-variants.{Start, Goal, AllValues, TwoValues, Precondition, Effect, Stays, TwoActions}
 use Rattle.formula.specs.InFamily.{InRange}
 use Rattle.formula.specs.Front.{written, clauseWritten, literalCount, Ready, valuesTo}
-use Rattle.formula.proofs.Writing.{written-on, written-none, length-written, two-long}
+use Rattle.formula.proofs.Writing.{written-on, written-none, two-long}
 
 -- ---- what the file says of a pair is inside the task
 

@@ -4,21 +4,18 @@ use mathlib.Core.Path.{_≡_, refl, sym, ap, _∙_}
 use mathlib.Core.Logic.{⊎-elim}
 use mathlib.Core.Bool.{Bool, true, false, _&&_}
 use mathlib.Core.List.{List, [], _∷_, _++_}
-use Prim.Native.Nat.{ℕ, zero, suc, _+_, _≤_, _<_}
+use Prim.Native.Nat.{ℕ, suc, _+_, _≤_, _<_}
 use native.Mathlib.Omega.{arith}
 use native.Mathlib.Numerals.{add-one}
 use borrow.Author.Tests.{eq-eqb, ne-eqb}
-use mir.Syntax.{w64}
-use mir.Val.{Fits}
 use lib.Dec.{eqb}
 use lib.IntN.{ℤ}
 use lib.ListN.{length, length-append}
-use Rattle.rules.specs.Counting.{first, forEach, when}
-use Rattle.rules.specs.Task.{Pair, Task, A, pair, action}
-use Rattle.rules.specs.Problem.{Problem, problem}
+use Rattle.rules.specs.Counting.{first, forEach}
+use Rattle.rules.specs.Task.{Task, A, pair, action}
+use Rattle.rules.specs.Problem.{Problem}
 use Rattle.rules.specs.Numbering.{actionNumber}
-use Rattle.rules.specs.Families.{Literal, plus, supporters}
-use Rattle.rules.specs.File.{taskOf}
+use Rattle.rules.specs.Families.{plus, supporters}
 use Rattle.rules.proofs.Bools.{either, clash}
 use Rattle.rules.proofs.Counting.{any-at, any-where, first-before, sumTo-part, length-forEach}
 use Rattle.formula.specs.Front.{written, givesBy, isGiven, supporter, supportersTo}

@@ -1,13 +1,13 @@
 -- Literals in lent memory: the signed number that a word holds, and one literal written behind others.
 -- Assumes nothing.
 use mathlib.Core.Path.{_≡_, refl, sym, ap, _∙_}
-use mathlib.Core.List.{List, [], _∷_, _++_, map}
+use mathlib.Core.List.{List, [], _∷_, _++_, map, map-append}
 use Prim.Native.Nat.{ℕ, zero, suc, _+_, _^_, _≤_, _<_}
 use native.Mathlib.Omega.{arith}
 use native.Mathlib.Nat.{lt-of-le-of-lt}
 use lib.Dec.{lit<}
-use lib.IntN.{ℤ, pos, negsuc, negℤ, _-ℤ_, +ℤ-idl}
-use lib.ListN.{length, set, length-set, length-map, length-append}
+use lib.IntN.{ℤ, pos, negℤ, _-ℤ_, +ℤ-idl}
+use lib.ListN.{length, set, length-map}
 use mir.Syntax.{w32}
 use mir.Val.{hbits, SFits, ofZ, toZ}
 use mir.ValLaws.{toZ-pos, toZ-ofZ}
@@ -51,10 +51,6 @@ module _ (lent : List ℤ) (at n m : ℕ) (h : at < length lent) (few : n ≤ ma
       (ap (λ m. toZ w32 (ofZ w32 (pos 0 -ℤ toZ w32 m))) e ∙ ap (λ z. toZ w32 (ofZ w32 z)) (negated n few) ∙ toZ-ofZ w32 (negℤ (pos n)) (negated-fits n few))
 
 -- ---- one behind the other
-
-map-append : {X Y : Type 0} (f : X → Y) (l r : List X) → map f (l ++ r) ≡ map f l ++ map f r
-map-append f [] r = refl
-map-append f (x ∷ l) r = ap (λ t. f x ∷ t) (map-append f l r)
 
 pub length-written : (lent out : List ℤ) (at : ℕ) (ls : List Literal) → at + length ls ≤ length lent → out ≡ written lent at ls → length out ≡ length lent
 unfolding written

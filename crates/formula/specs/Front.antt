@@ -10,7 +10,7 @@ use Rattle.rules.specs.Counting.{forEach, table, when, any}
 use Rattle.rules.specs.Task.{Task, pair, action}
 use Rattle.rules.specs.Problem.{Problem, problem}
 use Rattle.rules.specs.Numbering.{valueNumber, actionNumber}
-use Rattle.rules.specs.Families.{Literal, plus, signed, gives}
+use Rattle.rules.specs.Families.{Literal, plus, signed}
 use Rattle.rules.specs.File.{taskOf}
 use Rattle.digits.specs.Over.{over}
 use Rattle.formula.specs.declared.place.Place.{Place}

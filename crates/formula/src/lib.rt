@@ -1,4 +1,5 @@
-// The formula of an accepted file at a horizon: the place of clause c in its family, N and C, and clause c as literals.
+// The formula of a file at a horizon. `calls` has the functions for any bytes: N and C, and clause number c as literals (refusals 1 to 10).
+// All others are for an accepted file with its index: the place of clause c (`placing`), what stands there (`clauses`), N and C (`families`).
 pub mod calls;
 pub mod clauses;
 pub mod families;

@@ -1,5 +1,6 @@
 // The folder example's formula, its counts and all its clauses, at horizons 0 to 3; the clause behind the last; horizons 64 and 65; lent
-// memory that is too short; files that are refused. After each call all lent words are shown, "?" for one as it was lent, and "beyond" for a number above 22.
+// memory that is too short; files that are refused. After each call all lent words are shown: "?" is one as it was lent, "beyond" a
+// number that is not shown.
 use formula::calls::CountsAnswer;
 use formula::calls::LiteralsAnswer;
 use rules::Refusal;
