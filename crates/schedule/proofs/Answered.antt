@@ -28,7 +28,8 @@ use Rattle.rules.proofs.Bools.{and-left, and-right, and-both}
 use Rattle.rules.proofs.Judging.{judge-nil, judge-head, judge-cons, judge-append, inTurn-left, inTurn-right, inTurn-both}
 use Rattle.rules.proofs.Valid.{WellFormed}
 use Rattle.rules.proofs.Files.{accepted-well-formed}
-use Rattle.rules.proofs.Endings.{Complete}
+use Rattle.rules.specs.declared.Phase.the-variants.{ModelClosed}
+use Rattle.rules.proofs.Endings.{ModelHolds}
 use Rattle.rules.proofs.Schedules.{carried-out, out-carried}
 use Rattle.rules.proofs.InRows.{schedule-rows, schedule-again}
 use Rattle.schedule.specs.Written.{lent}
@@ -73,7 +74,7 @@ module _ (file : List ℕ) (k : ℕ) (entries : List ℕ) (rows : Rows) where
       (out-carried (taskOf file) k entries (b .carried))
 
   -- such rows are a model, and state the schedule
-  model-back : BecomesModel → Complete (problemOf file k) (rowsOf (problemOf file k) entries rows)
+  model-back : BecomesModel → ModelHolds (problemOf file k) ModelClosed (rowsOf (problemOf file k) entries rows)
   unfolding problemOf
   model-back b = schedule-rows (taskOf file) (well b) k entries rows (b .carried)
 
@@ -108,8 +109,8 @@ module _ (κs : _) (a : _) (r : Verdict) (x : _) (promised : way-back.Post κs a
     pub then-its-model : after ≡ rowsOf P (now (a .1 .1 .0)) rows
     then-its-model = promised .1 ∙ left (now (a .0)) (a .1 .0) (now (a .1 .1 .0)) rows (sym (promised .0) ∙ e)
 
-    pub which-is-complete : Complete P after
-    which-is-complete = rw then-its-model (model-back (now (a .0)) (a .1 .0) (now (a .1 .1 .0)) rows stands)
+    pub which-holds : ModelHolds P ModelClosed after
+    which-holds = rw then-its-model (model-back (now (a .0)) (a .1 .0) (now (a .1 .1 .0)) rows stands)
 
     pub and-states-it : scheduleOf P (modelIn after) ≡ take (a .1 .0) (now (a .1 .1 .0))
     and-states-it = ap (λ l. scheduleOf P (modelIn l)) then-its-model ∙ schedule-back (now (a .0)) (a .1 .0) (now (a .1 .1 .0)) rows stands

@@ -25,7 +25,7 @@ use Rattle.rules.proofs.Valid.{WellFormed}
 use Rattle.rules.proofs.Contents.{Contents, length-body}
 use Rattle.rules.proofs.Files.{accepted-file, accepted-well-formed}
 use Rattle.rules.proofs.Rests.{action-read, rest-place}
-use Rattle.task.specs.Stretches.{Stretch}
+use Rattle.reader.specs.Stretches.{Stretch}
 use Rattle.task.specs.Index.{restAt, actionPlace}
 use Rattle.schedule.specs.Over.{over}
 use Rattle.walk.specs.Lent.{startValues, goalIn, firstUnmet}
