@@ -32,10 +32,10 @@ use Rattle.rules.specs.declared.Verdict.{Verdict}
 use Rattle.rules.specs.declared.Verdict.the-variants.{Accepted, Refused}
 use Rattle.rules.specs.declared.Phase.{Phase}
 use Rattle.rules.specs.declared.Phase.the-variants.{NoStatus, ModelOpen, ModelClosed, SaidUnsatisfiable, SaidUnknown}
-use Rattle.rules.proofs.Endings.{accepted-complete}
+use Rattle.rules.proofs.Endings.{accepted-holds}
 use Rattle.rules.proofs.Bools.{not-true, not-false, and-right}
 use Rattle.rules.proofs.Counting.{first-le, first-before, first-ext, length-table}
-use Rattle.rules.proofs.Judging.{judge-refused, judge-passed, judge-append, judge-nil, judge-head, inTurn-left, inTurn-right, refused-not}
+use Rattle.rules.proofs.Judging.{judge-refused, judge-passed, judge-append, judge-nil, judge-head, inTurn-left, inTurn-right}
 use Rattle.rules.proofs.Loops.{judge-found, judge-none}
 use Rattle.rules.proofs.Files.{accepted-well-formed}
 use Rattle.rules.proofs.Within.{Agree, clause-same, schedule-alike}
@@ -239,12 +239,7 @@ outcome-of file given isTrue entries k phase h =
 
 -- an accepted model gives every variable, so its schedule is the one that its bits state
 closed : (P : Problem) (rows : Rows) (phase : Phase) → outcome P phase rows ≡ Accepted → (i : ℕ) → i < N P → modelIn rows .given (suc i) ≡ true
-unfolding outcome
-closed P rows NoStatus h = refused-not h
-closed P rows ModelOpen h = refused-not h
-closed P rows SaidUnsatisfiable h = refused-not h
-closed P rows SaidUnknown h = refused-not h
-closed P rows ModelClosed h = accepted-complete P rows h .all-given
+closed P rows phase h = accepted-holds P rows phase h .complete
 
 pub entries-stated : (file given isTrue entries written : List ℕ) (k : ℕ) (phase : Phase) (v : Verdict)
     → v ≡ endVerdict file k phase (lent given isTrue) entries → v ≡ Accepted
