@@ -1,0 +1,36 @@
+# shellcheck shell=sh
+# The solvers known by name: how each is called, and the Debian package it comes in. To be sourced.
+
+# shellcheck disable=SC2034
+known_solvers='cadical picosat cryptominisat5'
+
+package_of() {
+    case $1 in
+        cryptominisat5) echo cryptominisat ;;
+        *) echo "$1" ;;
+    esac
+}
+
+is_there() { command -v "$1" >/dev/null 2>&1; }
+
+# turns into the solver SOLVER on the formula FORMULA: for a process of its own, and a process group where the system can make one
+become_solver() {
+    case ${1##*/} in
+        cadical) set -- "$1" -q "$2" ;;
+        cryptominisat5) set -- "$1" --verb 0 "$2" ;;
+    esac
+    ! is_there setsid || set -- setsid "$@"
+    exec "$@"
+}
+
+# installs a solver's package where that is allowed and possible, and says whether the solver is there then
+install_solver() {
+    is_there "$1" && return
+    [ "$(id -u)" -eq 0 ] && is_there apt-get || return
+    echo "installing the Debian package $(package_of "$1")" >&2
+    DEBIAN_FRONTEND=noninteractive
+    export DEBIAN_FRONTEND
+    apt-get install -y --no-install-recommends "$(package_of "$1")" >/dev/null 2>&1 ||
+        { apt-get update && apt-get install -y --no-install-recommends "$(package_of "$1")"; } >/dev/null 2>&1
+    is_there "$1"
+}
