@@ -12,7 +12,7 @@ use crate::rows::bit;
 use crate::schedule::way_back;
 use crate::solver_lines::{Phase, ReadingState, Rows};
 use crate::task_file::{Action, Task};
-use std::collections::BTreeSet;
+use std::collections::{BTreeMap, BTreeSet};
 
 /// Assignments are counted through, so there must be few variables.
 pub const MOST_FORMULA_VARIABLES: u64 = 20;
@@ -194,6 +194,23 @@ pub fn is_good(task: &Task, schedule: &[u64]) -> bool {
         }
     }
     all_hold(&task.goal, &state)
+}
+
+/// How many schedules are good: in how many ways each state is reached, step
+/// by step.
+pub fn count_good(task: &Task, horizon: u64) -> u64 {
+    let mut ways = BTreeMap::from([(task.start.clone(), 1)]);
+    for _ in 0..horizon {
+        // An empty step leaves every state as it is.
+        let mut next = ways.clone();
+        for (state, count) in &ways {
+            for reached in task.actions.iter().filter_map(|action| after(action, state)) {
+                *next.entry(reached).or_default() += count;
+            }
+        }
+        ways = next;
+    }
+    ways.iter().filter(|(state, _)| all_hold(&task.goal, state)).map(|(_, count)| count).sum()
 }
 
 /// Whether at most so many moves can reach the goal: states by layers.

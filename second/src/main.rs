@@ -1,11 +1,13 @@
 //! The second program's commands; the folder's README says how to use them.
 
 use second::answers::{reply, write_answer};
-use second::brute_force::{pair_off_any, MOST_FORMULA_VARIABLES};
+use second::brute_force::{count_good, pair_off_any, MOST_FORMULA_VARIABLES};
 use second::cases::{Maker, Options};
+use second::draft::{planned, Size};
 use second::programs::{clauses_program, model_program};
 use second::protocol::*;
 use second::random::Random;
+use second::task_file::judge;
 use std::collections::{BTreeMap, BTreeSet};
 use std::error::Error;
 use std::fs::File;
@@ -15,7 +17,8 @@ use std::process::ExitCode;
 type Outcome = Result<(), Box<dyn Error>>;
 
 const USAGE: &str = "clauses | model | cases SEED COUNT [NAME=VALUE ..] | answer | \
-    compare CASES ANSWERS | tally | pick INDEX | show | input | brute SEED COUNT";
+    compare CASES ANSWERS | tally | pick INDEX | show | input | brute SEED COUNT | \
+    task SEED STEPS | good HORIZON";
 
 fn main() -> ExitCode {
     let words: Vec<String> = std::env::args().skip(1).collect();
@@ -41,6 +44,8 @@ fn command(words: &[&str]) -> Outcome {
         ["show"] => show(),
         ["input"] => input(),
         ["brute", seed, count] => brute(seed.parse()?, count.parse()?),
+        ["task", seed, steps] => task(seed.parse()?, steps.parse()?),
+        ["good", horizon] => good(horizon.parse()?),
         _ => Err(USAGE.into()),
     }
 }
@@ -219,5 +224,20 @@ fn brute(seed: u64, count: u64) -> Outcome {
         schedules += found.assignments;
     }
     println!("{count} formulas pair off, {satisfiable} satisfiable, {schedules} schedules");
+    Ok(())
+}
+
+/// A small task file whose goal a walk of so many steps has reached.
+fn task(seed: u64, steps: usize) -> Outcome {
+    let file = planned(&mut Random::new(seed), Size::Small, steps).draft.file();
+    Ok(io::stdout().lock().write_all(&file)?)
+}
+
+/// How many schedules of the task file on standard input are good.
+fn good(horizon: u64) -> Outcome {
+    let mut file = Vec::new();
+    io::stdin().read_to_end(&mut file)?;
+    let task = judge(&file).map_err(|refusal| format!("{refusal:?}"))?;
+    println!("{}", count_good(&task, horizon));
     Ok(())
 }

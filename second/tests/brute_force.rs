@@ -4,6 +4,7 @@ mod common;
 
 use common::*;
 use second::brute_force::*;
+use second::draft::{planned, Size};
 use second::random::Random;
 use second::task_file::judge;
 
@@ -38,4 +39,21 @@ fn a_task_that_needs_two_moves() {
     }
     assert!(is_good(&task, &[1, 2, 0]) && !is_good(&task, &[2, 1]));
     assert_eq!(all_schedules(2, 2).len(), 9);
+}
+
+#[test]
+fn good_schedules_are_counted() {
+    let task = judge(&folder()).unwrap();
+    for (horizon, schedules) in [(0, 0), (1, 0), (2, 1), (3, 4)] {
+        assert_eq!(count_good(&task, horizon), schedules);
+    }
+    let mut random = Random::new(5);
+    for _ in 0..50 {
+        let task = judge(&planned(&mut random, Size::Tiny, 3).draft.file()).unwrap();
+        for horizon in 0..=4 {
+            let all = all_schedules(task.actions.len() as u64, horizon);
+            let good = all.iter().filter(|schedule| is_good(&task, schedule)).count();
+            assert_eq!(count_good(&task, horizon), good as u64);
+        }
+    }
 }
