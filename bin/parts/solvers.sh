@@ -11,7 +11,9 @@ package_of() {
     esac
 }
 
-is_there() { command -v "$1" >/dev/null 2>&1; }
+is_there() {
+    program=$(command -v "$1") && [ -f "$program" ] && [ -x "$program" ]
+}
 
 # turns into the solver SOLVER on the formula FORMULA: for a process of its own, and a process group where the system can make one
 become_solver() {
