@@ -6,8 +6,8 @@ known_solvers='cadical picosat cryptominisat5'
 
 package_of() {
     case $1 in
+        cadical | picosat) echo "$1" ;;
         cryptominisat5) echo cryptominisat ;;
-        *) echo "$1" ;;
     esac
 }
 

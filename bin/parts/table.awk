@@ -1,9 +1,10 @@
 # The states that a schedule walks through, a line a step: from the bytes of a task file in decimal (stage=bytes), the schedule's entries (stage=plan)
 # and, where there is one, the source of names (stage=names). The walk is done over again here: a schedule that is not good gives no table.
 
-function stop(why) {
+# the exit statuses of bin/plan: 2 for a bad input, 4 where a schedule that has passed bin/model does not pass here
+function stop(status, why) {
     print why | "cat 1>&2"
-    exit 1
+    exit status
 }
 
 # a number of two bytes, low byte first
@@ -27,7 +28,7 @@ function pairs_hold(at, count,    i) {
 function move(action, step,    at, preconditions, i) {
     at = action_at[action]
     preconditions = byte[at]
-    if (action >= actions || !pairs_hold(at + 2, preconditions)) stop("step " step " of the schedule does not apply")
+    if (action >= actions || !pairs_hold(at + 2, preconditions)) stop(4, "step " step " of the schedule does not apply")
     for (i = 0; i < byte[at + 1]; i++)
         state[byte[at + 2 + 2 * (preconditions + i)]] = byte[at + 3 + 2 * (preconditions + i)]
 }
@@ -75,7 +76,7 @@ $1 == "action" { action_name[action_names++] = $2 }
 END {
     variables = word(2)
     find_actions()
-    if (named && !names_fit()) stop("the names are those of another task")
+    if (named && !names_fit()) stop(2, "the names are those of another task")
     put(0, 0, "step")
     put(0, 1, "move")
     for (x = 0; x < variables; x++) {
@@ -87,6 +88,6 @@ END {
         if (entry[step] > 0) move(entry[step] - 1, step)
         put_state(1 + step, step, entry[step] > 0 ? name_of_action(entry[step] - 1) : "-")
     }
-    if (!pairs_hold(word(8), word(10) / 2)) stop("the schedule does not reach the goal")
+    if (!pairs_hold(word(8), word(10) / 2)) stop(4, "the schedule does not reach the goal")
     print_table()
 }
