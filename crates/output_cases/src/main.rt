@@ -10,67 +10,12 @@ use output::feeding::LINE_ROOM;
 use rules::LineAnswer;
 use rules::Phase;
 use rules::Reading;
-use rules::Refusal;
 ghost use Prim.Native.Nat.{_≤_, _<_};
 ghost use lib.ListN.{length};
 
 const ROW_WORDS: usize = 32;
 
 // ---- printing
-
-fn number_of(why: Refusal) -> u64 {
-    match why {
-        Refusal::FileLength => 1,
-        Refusal::ContentsRow(_) => 2,
-        Refusal::BodyLength => 3,
-        Refusal::DomainSize(_) => 4,
-        Refusal::StartValue(_) => 5,
-        Refusal::GoalPair(_) => 6,
-        Refusal::ActionAtFault(_) => 7,
-        Refusal::Horizon => 8,
-        Refusal::ClauseNumber => 9,
-        Refusal::Room => 10,
-        Refusal::Grammar(_) => 11,
-        Refusal::OutOfPlace(_) => 12,
-        Refusal::OverN(_) => 13,
-        Refusal::GivenBefore(_) => 14,
-        Refusal::Unfinished => 15,
-        Refusal::NotGiven(_) => 16,
-        Refusal::FalseClause(_) => 17,
-        Refusal::Unsatisfiable => 18,
-        Refusal::Unknown => 19,
-        Refusal::EntryOverA(_) => 20,
-        Refusal::DoesNotApply(_) => 21,
-        Refusal::GoalUnmet(_) => 22,
-    }
-}
-
-fn detail_of(why: Refusal) -> usize {
-    match why {
-        Refusal::FileLength => 0,
-        Refusal::ContentsRow(r) => r,
-        Refusal::BodyLength => 0,
-        Refusal::DomainSize(x) => x,
-        Refusal::StartValue(x) => x,
-        Refusal::GoalPair(i) => i,
-        Refusal::ActionAtFault(a) => a,
-        Refusal::Horizon => 0,
-        Refusal::ClauseNumber => 0,
-        Refusal::Room => 0,
-        Refusal::Grammar(i) => i,
-        Refusal::OutOfPlace(i) => i,
-        Refusal::OverN(i) => i,
-        Refusal::GivenBefore(i) => i,
-        Refusal::Unfinished => 0,
-        Refusal::NotGiven(v) => v,
-        Refusal::FalseClause(c) => c,
-        Refusal::Unsatisfiable => 0,
-        Refusal::Unknown => 0,
-        Refusal::EntryOverA(t) => t,
-        Refusal::DoesNotApply(t) => t,
-        Refusal::GoalUnmet(i) => i,
-    }
-}
 
 fn print(text: &[u8]) {
     io::write_all(STDOUT_FILENO, text);
@@ -106,8 +51,8 @@ fn print_answer(answer: LineAnswer, given: &[u64], truth: &[u64]) {
         }
         LineAnswer::Refused(why) => {
             print(b"refused");
-            print_number(number_of(why));
-            print_number(detail_of(why) as u64);
+            print_number(refusals::number_of(why) as u64);
+            print_number(refusals::detail_of(why) as u64);
         }
     }
     print_number(first_word(given));
