@@ -6,7 +6,7 @@ use mathlib.Core.List.{List, [], _∷_, _++_}
 use Prim.Native.Nat.{ℕ, _+_, _-_, _≤_, _<_}
 use native.Mathlib.Omega.{arith}
 use native.Mathlib.Nat.{zero-add}
-use borrow.Author.Tests.{le-leb, lt-leb, lt-ltb, le-ltb}
+use borrow.Author.Tests.{le-leb, lt-leb, leb-true, lt-ltb, le-ltb, ltb-true}
 use lib.Dec.{leb, ltb}
 use lib.ListN.{length, take}
 use Rattle.rules.specs.Limits.{maxHorizon}
@@ -21,7 +21,7 @@ use Rattle.rules.specs.declared.Refusal.the-variants.{ClauseNumber, Room}
 use Rattle.rules.specs.declared.Verdict.{Verdict}
 use Rattle.rules.specs.declared.Verdict.the-variants.{Accepted, Refused}
 use Rattle.rules.proofs.Bools.{below-or}
-use Rattle.rules.proofs.Judging.{judge-nil, judge-refused, judge-passed, judge-append}
+use Rattle.rules.proofs.Judging.{judge-nil, judge-refused, judge-passed, judge-head, judge-append, inTurn-left, inTurn-right}
 use Rattle.task.specs.Index.{Indexed}
 use Rattle.digits.specs.Over.{over}
 use Rattle.digits.proofs.Overs.{over-front, over-none}
@@ -47,6 +47,11 @@ module _ (file : List ℕ) (k : ℕ) where
     unfolding headerVerdict problemVerdict
     header-turns = judge-append (problemRules file k) _
 
+    pub header-room : headerVerdict file k room ≡ Accepted → length header ≤ room
+    header-room f =
+        leb-true (length header) room
+        (judge-head (demand (leb (length header) room) Room) [] (inTurn-right (problemVerdict file k) _ (sym header-turns ∙ f)))
+
     header-refused : (why : Refusal) → problemVerdict file k ≡ Refused why → headerVerdict file k room ≡ Refused why
     header-refused why f = rw (header-turns, f)
 
@@ -65,6 +70,23 @@ module _ (file : List ℕ) (k : ℕ) where
     unfolding clauseLineVerdict clauseRules problemVerdict
     line-turns =
         judge-append (clauseRules file k c) _ ∙ ap (λ v. inTurn v (judge (roomRule (length (clauseLine (clause P c))) room))) (judge-append (problemRules file k) _)
+
+    -- what acceptance says
+    module _ (f : clauseLineVerdict file k c room ≡ Accepted) where
+      turned : inTurn (inTurn (problemVerdict file k) (judge (demand (ltb c (C P)) ClauseNumber ∷ []))) (judge (roomRule (length (clauseLine (clause P c))) room)) ≡ Accepted
+      turned = sym line-turns ∙ f
+
+      pub line-there : c < C P
+      line-there =
+          ltb-true c (C P)
+          (judge-head (demand (ltb c (C P)) ClauseNumber) []
+          (inTurn-right (problemVerdict file k) _ (inTurn-left (inTurn (problemVerdict file k) (judge (demand (ltb c (C P)) ClauseNumber ∷ []))) _ turned)))
+
+      pub line-room : length (clauseLine (clause P c)) ≤ room
+      line-room =
+          leb-true (length (clauseLine (clause P c))) room
+          (judge-head (demand (leb (length (clauseLine (clause P c))) room) Room) []
+          (inTurn-right (inTurn (problemVerdict file k) (judge (demand (ltb c (C P)) ClauseNumber ∷ []))) _ turned))
 
     line-refused : (why : Refusal) → problemVerdict file k ≡ Refused why → clauseLineVerdict file k c room ≡ Refused why
     line-refused why f = rw (line-turns, f)

@@ -3,3 +3,4 @@ pub mod Longest
 pub mod Running
 pub mod Heading
 pub mod Answered
+pub mod Taken
