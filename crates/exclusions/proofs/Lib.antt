@@ -1,1 +1,5 @@
 -- What the proofs of this crate's functions share.
+mod ByBytes
+mod ByWords
+mod HeadTail
+mod Rowing

@@ -5,11 +5,14 @@ use crate::texts::head_of;
 use crate::texts::tail_of;
 use crate::words::put_run;
 use digits::digit_count;
-ghost use Prim.Native.Nat.{suc, _+_, _*_, _≤_};
+ghost use mathlib.Core.Path.{_≡_};
+ghost use Prim.Native.Nat.{suc, _+_, _-_, _*_, _%_, _≤_, min};
 ghost use lib.ListN.{length};
 ghost use Rattle.rules.specs.Limits.{maxN};
+ghost use Rattle.rules.specs.Text.{decimal};
 ghost use Rattle.digits.specs.Over.{Wrote};
 ghost use Rattle.exclusions.specs.Exclusions.{rowText, pairRoom};
+ghost use Rattle.exclusions.specs.InTwoWords.{tailWord, runText};
 
 const TEN: usize = 10;
 
@@ -19,14 +22,29 @@ const THREE_DIGITS: usize = 100;
 // The bytes of a line beside its digits.
 const SIGNS: usize = 6;
 
-fn least(a: usize, b: usize) -> usize {
-    if a < b {
-        return a;
+// How many lines there are to the next number that ends in 0, and at most left.
+fn run_of(m: usize, left: usize) -> usize
+    ensures { λ r. ⌜ r ≡ min (10 - m % 10) left ⌝ }
+{
+    let ahead = TEN - m % TEN;
+    if ahead < left {
+        return ahead;
     }
-    b
+    left
 }
 
-// Ten lines a turn: to the next number that ends in 0 only the last digit changes.
+// n lines whose second numbers, from m on, differ in the last digit only.
+fn put_ten(out: &mut [u8], at: usize, head: u64, beside: usize, m: usize, n: usize) -> usize
+    requires { ⌜ (7 ≤ beside) × (beside ≤ 11) × (100 ≤ m) × (m ≤ maxN) × (m % 10 + n ≤ 10) × (at + pairRoom * n ≤ length (now out)) ⌝ }
+    ensures written { λ end. ⌜ Wrote (now (out .entry)) at (runText head (beside + length (decimal m)) (tailWord m) n) (now (out .exit)) end ⌝ }
+    ensures within { λ end. ⌜ end ≤ at + pairRoom * n ⌝ }
+{
+    let line = beside + digits_of(m);
+    let tail = tail_of(m);
+    put_run(out, at, head, line, tail, n)
+}
+
+// Ten lines a turn, from a number that ends in 0 to the next.
 fn put_tens(out: &mut [u8], at: usize, p: usize, q: usize, n: usize) -> usize
     requires { ⌜ (p ≤ maxN) × (100 ≤ q) × (q + n ≤ suc maxN) × (at + pairRoom * n ≤ length (now out)) ⌝ }
     ensures written { λ end. ⌜ Wrote (now (out .entry)) at (rowText p q n) (now (out .exit)) end ⌝ }
@@ -37,9 +55,8 @@ fn put_tens(out: &mut [u8], at: usize, p: usize, q: usize, n: usize) -> usize
     let mut end = at;
     let mut i = 0;
     while i < n {
-        let m = q + i;
-        let run = least(TEN - m % TEN, n - i);
-        end = put_run(out, end, head, beside + digits_of(m), tail_of(m), run);
+        let run = run_of(q + i, n - i);
+        end = put_ten(out, end, head, beside, q + i, run);
         i += run;
     }
     end
