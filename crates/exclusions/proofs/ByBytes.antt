@@ -45,7 +45,7 @@ end-written l m m′ at e e′ p q r s =
     wrote-more l m m′ at e e′ (digit0 ∷ []) (lf ∷ []) (record { written = p; behind = q }) (record { written = r; behind = s })
 
 -- a line is its parts
-line-parts : (p q : ℕ) → minusText p ++ (minusText q ++ endText) ≡ exclusionText p q
+pub line-parts : (p q : ℕ) → minusText p ++ (minusText q ++ endText) ≡ exclusionText p q
 unfolding exclusionText minusText endText clauseLine joined
 line-parts p q = simp (append-assoc, append-nil)
 

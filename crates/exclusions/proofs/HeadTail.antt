@@ -29,12 +29,12 @@ three-digits q h l = sym (decimal-length 2 q (omega arith) (omega arith))
 
 -- ---- numbers in words
 
-in-word-append : (x y : List ℕ) (high : ℕ) → inWord (x ++ y) high ≡ inWord x (inWord y high)
+pub in-word-append : (x y : List ℕ) (high : ℕ) → inWord (x ++ y) high ≡ inWord x (inWord y high)
 unfolding inWord
 in-word-append [] y high = refl
 in-word-append (b ∷ x) y high = ap (λ w. b + byteValues * w) (in-word-append x y high)
 
-in-word-add : (x : List ℕ) (high more : ℕ) → inWord x (high + more) ≡ inWord x high + byteValues ^ length x * more
+pub in-word-add : (x : List ℕ) (high more : ℕ) → inWord x (high + more) ≡ inWord x high + byteValues ^ length x * more
 unfolding inWord
 in-word-add [] high more = omega arith
 in-word-add (b ∷ x) high more =
@@ -52,7 +52,7 @@ word-below digits m high most h l =
 abbrev betweenWord : ℕ
 betweenWord = 11552
 
-abbrev endingWord : ℕ
+abbrev pub endingWord : ℕ
 endingWord = 667680
 
 between-word : inWord between 0 ≡ betweenWord
@@ -94,10 +94,10 @@ pub tail-sum3 : (q w : ℕ) → q < 1000 → w ≡ inWord (decimal q) endingWord
 tail-sum3 q w h e = record { fits = omega (arith, word-below 2 q endingWord (byteValues ^ 3) (omega arith) (omega arith)) }
 
 -- what stands before the digits in the last eight bytes
-abbrev lead : ℕ → List ℕ
+abbrev pub lead : ℕ → List ℕ
 lead q = drop (length (decimal q) - 3) between
 
-by-lead : (q : ℕ) (x : List ℕ) → lead q ≡ x → tailWord q ≡ inWord x (inWord (decimal q) endingWord)
+pub by-lead : (q : ℕ) (x : List ℕ) → lead q ≡ x → tailWord q ≡ inWord x (inWord (decimal q) endingWord)
 unfolding tailWord tailText
 by-lead q x e =
     ap (λ r. inWord (r ++ (decimal q ++ ending)) 0) e

@@ -2,4 +2,5 @@
 mod ByBytes
 mod ByWords
 mod HeadTail
+mod Stems
 mod Rowing
