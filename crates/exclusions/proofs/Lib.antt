@@ -4,3 +4,4 @@ mod ByWords
 mod HeadTail
 mod Stems
 mod Rowing
+mod ByPair

@@ -72,6 +72,9 @@ pub record TensPut (room : List ℕ) (at p q n head beside : ℕ) (now : List �
   pub begins : head ≡ headWord p
   pub signs : beside ≡ length (decimal p) + 6
 
+pub signs-fit : (p d : ℕ) → p ≤ maxN → d ≡ length (decimal p) → Fits w64 (d + 6)
+signs-fit p d h e = record { fits = omega (arith, digits-few p h) }
+
 pub tens-start : (room : List ℕ) (at p q n head d : ℕ) → head ≡ headWord p → d ≡ length (decimal p) → TensPut room at p q n head (d + 6) room at 0
 tens-start room at p q n head d e f = record { row = row-start room at p q n; begins = e; signs = omega arith }
 

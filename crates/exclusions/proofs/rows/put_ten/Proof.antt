@@ -1,0 +1,17 @@
+-- `exclusions::rows::put_ten` meets its contract.
+-- Assumes nothing.
+use Rattle.exclusions.proofs.Rowing.{ten-fits, ten-least, ten-most, ten-tail, ten-written}
+use borrow.Author.Needs.{needs}
+use Rattle.exclusions.proofs.rows.put_ten.Statement.{statement}
+use Rattle.exclusions.proofs.rows.put_ten.Tie as tie
+
+pub put-ten-spec : {M : Type 1} → statement M
+put-ten-spec =
+    tie.close
+    (tie.spec
+    (λ c κs. search needs)
+    (λ c. search (needs, ten-fits))
+    (λ c κs. search needs)
+    (λ c κs. search (needs, ten-least, ten-most, ten-tail))
+    (λ c. search needs)
+    (λ c. search (needs, ten-written)))
