@@ -74,6 +74,7 @@ module _ (count i j : ℕ) (h : i < j) (l : j < count) where
         where
           sum : (a b : ℕ) → count - suc (suc i) ≡ 0 → b ≡ a + (count - suc (suc i)) → a ≡ b
           sum a b n e = omega arith
+
       last : count ≤ i + 1 + 1 → (start next all : ℕ) → next ≡ start + (count - suc i) → next ≡ all → start + (j - suc i) + (count - j) < all → ⊥
       last s start next all e f b = omega arith
 
@@ -131,6 +132,7 @@ module _ (room : List ℕ) (at base count from lines : ℕ) (now : List ℕ) (en
     where
       before : (r all : ℕ) → from + (lines - left) ≡ r → from + lines ≤ all → r + (count - j) < all
       before r all e b = omega (arith, p .few)
+
       passed : (r : ℕ) → from + (lines - left) ≡ r → from + (lines - (left - (count - j))) ≡ r + (count - j)
       passed r e = omega (arith, p .few)
 

@@ -31,14 +31,19 @@ words-written l k m at head line tail end h b room e f g =
   where
     x : List ℕ
     x = take (line - wordBytes) (lowBytes wordBytes head)
+
     z : List ℕ
     z = drop (line - wordBytes) (lowBytes wordBytes head)
+
     long : length x ≡ line - wordBytes
     long = length-take (line - wordBytes) (lowBytes wordBytes head) ∙ omega (arith, length-low wordBytes head)
+
     short : length z ≤ length (lowBytes wordBytes tail)
     short = omega (arith, length-drop (line - wordBytes) (lowBytes wordBytes head), length-low wordBytes head, length-low wordBytes tail)
+
     place : at + line - wordBytes ≡ at + length x
     place = omega (arith, long)
+
     stored : over k (at + line - wordBytes) (lowBytes wordBytes tail) ≡ over l at (twoWords head line tail)
     stored =
         ap (λ i. over k i (lowBytes wordBytes tail)) place

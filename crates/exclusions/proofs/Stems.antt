@@ -135,8 +135,10 @@ words-line p q line b h l e =
   where
     start : List ℕ
     start = dash ∷ decimal p
+
     k : ℕ
     k = length (decimal q) - 3
+
     front : take (line - wordBytes) (lowBytes wordBytes (headWord p)) ≡ start ++ take k between
     front =
         let f : line - wordBytes ≡ length start + k = omega (arith, digits-least q h) in
