@@ -1,6 +1,7 @@
 // Lines of pairs in rows that cross a power of ten, and a number that ends in 0; the least and the greatest numbers; one pair, no line,
 // and pairs from the middle on. Before and behind what is written two marks show how the lent room was.
 ghost use Prim.Native.Nat.{suc, _+_, _≤_, _<_};
+ghost use lib.ListN.{length};
 ghost use Rattle.rules.specs.Limits.{maxN};
 ghost use Rattle.rules.specs.Counts.{pairsBelow};
 ghost use Rattle.exclusions.specs.Exclusions.{numberOfPair};
@@ -11,13 +12,19 @@ const MARKS: usize = 2;
 
 const ROOM: usize = 2048;
 
+fn print_lines(out: &mut [u8], base: usize, count: usize, first: usize, second: usize, lines: usize)
+    requires { ⌜ (first < second) × (second < count) × (numberOfPair count first second + lines ≤ pairsBelow count) × (base + count ≤ suc maxN) × (lines ≤ 100) × (2048 ≤ length (now out)) ⌝ }
+{
+    let end = exclusions::put_exclusions(out, MARKS, base, count, first, second, lines);
+    io::write_all(1, &out[..end + MARKS]);
+    io::write_all(1, b"\n");
+}
+
 fn show(base: usize, count: usize, first: usize, second: usize, lines: usize)
     requires { ⌜ (first < second) × (second < count) × (numberOfPair count first second + lines ≤ pairsBelow count) × (base + count ≤ suc maxN) × (lines ≤ 100) ⌝ }
 {
     let mut out = [MARK; ROOM];
-    let end = exclusions::put_exclusions(&mut out, MARKS, base, count, first, second, lines);
-    io::write_all(1, &out[..end + MARKS]);
-    io::write_all(1, b"\n");
+    print_lines(&mut out, base, count, first, second, lines);
 }
 
 fn main() {
