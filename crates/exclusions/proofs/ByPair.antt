@@ -24,7 +24,12 @@ use Rattle.exclusions.proofs.Rowing.{forEach-add}
 
 -- ---- a row
 
-pair-line : (base count r i j : ℕ) → PairAt count r i j → exclusionLine base count r ≡ exclusionText (base + i) (base + j)
+-- a pair by its number, and the line of that pair
+pub number-of-pair : (count r i j : ℕ) → PairAt count r i j → numberOfPair count i j ≡ r
+unfolding numberOfPair
+number-of-pair count r i j p = sym (p .is)
+
+pub pair-line : (base count r i j : ℕ) → PairAt count r i j → exclusionLine base count r ≡ exclusionText (base + i) (base + j)
 unfolding exclusionLine exclusionText
 pair-line base count r i j p = ap clauseLine (getD-pairs count (λ i j. minus (base + i) ∷ minus (base + j) ∷ []) [] r i j p)
 

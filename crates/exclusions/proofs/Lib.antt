@@ -1,7 +1,8 @@
--- What the proofs of this crate's functions share.
+-- What the proofs of this crate's functions share, laws for its caller, and that the promise determines the answer.
 mod ByBytes
 mod ByWords
 mod HeadTail
 mod Stems
 mod Rowing
-mod ByPair
+pub mod ByPair
+pub mod OneAnswer
