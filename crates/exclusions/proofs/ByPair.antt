@@ -20,7 +20,7 @@ use Rattle.rules.proofs.Pairs.{PairAt, pairs-next, getD-pairs}
 use Rattle.digits.specs.Over.{Wrote}
 use Rattle.digits.proofs.Overs.{wrote-nothing, wrote-more}
 use Rattle.exclusions.specs.Exclusions.{exclusionText, rowText, exclusionLine, exclusionLines, numberOfPair, pairRoom}
-use Rattle.exclusions.proofs.Rowing.{forEach-add}
+use Rattle.exclusions.proofs.Adding.{forEach-add}
 
 -- ---- a row
 

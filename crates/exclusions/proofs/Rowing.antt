@@ -18,16 +18,9 @@ use Rattle.digits.specs.Over.{Wrote}
 use Rattle.digits.proofs.Overs.{wrote-nothing, wrote-more}
 use Rattle.exclusions.specs.Exclusions.{exclusionText, rowText, pairRoom}
 use Rattle.exclusions.specs.InTwoWords.{wordBytes, oneMore, runText, headWord, tailWord}
+use Rattle.exclusions.proofs.Adding.{forEach-add}
 use Rattle.exclusions.proofs.ByBytes.{digits-few}
 use Rattle.exclusions.proofs.Stems.{digits-least, tail-below, run-row}
-
-module _ {X : Type 0} where
-  -- so many, and more of them behind
-  pub forEach-add : (m k : ℕ) (f : ℕ → List X) → forEach (m + k) f ≡ forEach m f ++ forEach k (λ i. f (m + i))
-  unfolding forEach
-  forEach-add m zero f = rw (add-zero m, append-nil (forEach m f))
-  forEach-add m (suc k) f =
-      rw (add-suc m k) (ap (λ l. l ++ f (m + k)) (forEach-add m k f) ∙ append-assoc (forEach m f) (forEach k (λ i. f (m + i))) (f (m + k)))
 
 -- i lines of the row are written
 pub record RowPut (room : List ℕ) (at p q n : ℕ) (now : List ℕ) (end i : ℕ) : Type 0 where
@@ -132,6 +125,24 @@ module _ (m : ℕ) (h : 100 ≤ m) (l : m ≤ maxN) (beside d : ℕ) (e : d ≡ 
 pub ten-tail : (m n tail : ℕ) → 100 ≤ m → m ≤ maxN → m % 10 + n ≤ 10 → tail ≡ tailWord m → tail + oneMore * n < 2 ^ 64
 ten-tail m n tail h l t e = omega (arith, tail-below m h l)
 
-pub ten-written : (room now : List ℕ) (at head beside d tail m n end : ℕ) → Wrote room at (runText head (beside + d) tail n) now end → d ≡ length (decimal m) → tail ≡ tailWord m
+pub run-written : (room now : List ℕ) (at head beside d tail m n end : ℕ) → Wrote room at (runText head (beside + d) tail n) now end → d ≡ length (decimal m) → tail ≡ tailWord m
     → Wrote room at (runText head (beside + length (decimal m)) (tailWord m) n) now end
-ten-written room now at head beside d tail m n end w e f = rw (← e, ← f) w
+run-written room now at head beside d tail m n end w e f = rw (← e, ← f) w
+
+-- ten lines are the most, and sixteen bytes
+pub wide-tail : (m tail : ℕ) → 100 ≤ m → m ≤ maxN → tail ≡ tailWord m → tail + oneMore * 10 < 2 ^ 64
+wide-tail m tail h l e = omega (arith, tail-below m h l)
+
+pub wide-room : (at n room : ℕ) → 10 ≤ n → at + pairRoom * n ≤ room → at + pairRoom * 10 ≤ room
+wide-room at n room l h = omega arith
+
+pub wide-written : (room now : List ℕ) (at head beside d tail m n end : ℕ) → Wrote room at (runText head pairRoom tail 10) now end → m ≤ maxN
+    → m % 10 + n ≤ 10 → 10 ≤ n → beside ≤ 11 → d ≡ length (decimal m) → pairRoom ≤ beside + d → tail ≡ tailWord m
+    → Wrote room at (runText head (beside + length (decimal m)) (tailWord m) n) now end
+wide-written room now at head beside d tail m n end w b f g h e k t =
+    let ten : n ≡ 10 = omega arith in
+    let wide : beside + d ≡ pairRoom = omega (arith, digits-few m b) in
+    run-written room now at head beside d tail m n end (rw (ten, wide) w) e t
+
+pub wide-within : (at n end : ℕ) → end ≤ at + pairRoom * 10 → 10 ≤ n → end ≤ at + pairRoom * n
+wide-within at n end h e = omega arith

@@ -3,7 +3,9 @@ use crate::exact;
 use crate::texts::digits_of;
 use crate::texts::head_of;
 use crate::texts::tail_of;
+use crate::words::WIDE;
 use crate::words::put_run;
+use crate::words::put_wide;
 use digits::digit_count;
 ghost use mathlib.Core.Path.{_≡_};
 ghost use Prim.Native.Nat.{suc, _+_, _-_, _*_, _%_, _≤_, min};
@@ -41,7 +43,13 @@ fn put_ten(out: &mut [u8], at: usize, head: u64, beside: usize, m: usize, n: usi
 {
     let line = beside + digits_of(m);
     let tail = tail_of(m);
-    put_run(out, at, head, line, tail, n)
+    if n < TEN {
+        return put_run(out, at, head, line, tail, n);
+    }
+    if line < WIDE {
+        return put_run(out, at, head, line, tail, n);
+    }
+    put_wide(out, at, head, tail)
 }
 
 // Ten lines a turn, from a number that ends in 0 to the next.
