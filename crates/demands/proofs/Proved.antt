@@ -2,29 +2,34 @@
 -- Assumes nothing.
 use mathlib.Core.Path.{_≡_, refl, sym, ap, _∙_}
 use mathlib.Core.Bool.{true}
-use mathlib.Core.List.{List, _++_}
-use Prim.Native.Nat.{ℕ, suc, _-_, _≤_, _<_}
+use mathlib.Core.List.{List, [], _∷_, _++_, map}
+use Prim.Native.Nat.{ℕ, suc, _+_, _-_, _*_, _≤_, _<_}
 use native.Mathlib.Omega.{arith}
 use borrow.Author.Tests.{le-leb}
+use lib.IntN.{ℤ}
 use lib.ListN.{length, take, drop, replicate, length-replicate}
 use lib.Seq.{take-at}
 use Rattle.rules.specs.Limits.{maxHorizon}
-use Rattle.rules.specs.Task.{Task}
+use Rattle.rules.specs.Counting.{joined}
+use Rattle.rules.specs.Task.{Task, S, A}
 use Rattle.rules.specs.File.{fileVerdict, taskOf}
 use Rattle.rules.specs.Problem.{Problem}
 use Rattle.rules.specs.Numbering.{N}
+use Rattle.rules.specs.Families.{signed, family1, family2, family3, family4, family5, family6, family7, family8, formula, C}
+use Rattle.rules.specs.Counts.{sum, countTable}
 use Rattle.rules.specs.Rows.{Rows, wordsFor, bitOfVariable}
 use Rattle.rules.specs.Truth.{Complete, modelIn}
 use Rattle.rules.specs.Walk.{CarriedOut}
 use Rattle.rules.specs.Readings.{scheduleOf, rowsOf}
 use Rattle.rules.specs.Answers.{judge}
 use Rattle.rules.specs.Lines.{rowsFit}
-use Rattle.rules.specs.Calls.{problemOf, lentRules, endVerdict, endEntries, backVerdict, backRows}
+use Rattle.rules.specs.Calls.{problemOf, problemVerdict, lentRules, endVerdict, endEntries, backVerdict, backRows}
 use Rattle.rules.specs.declared.Verdict.{Verdict}
 use Rattle.rules.specs.declared.Verdict.the-variants.{Accepted}
 use Rattle.rules.specs.declared.Phase.{Phase}
 use Rattle.rules.specs.declared.Phase.the-variants.{ModelClosed}
 use Rattle.rules.proofs.Endings.{ModelHolds, accepted-holds}
+use Rattle.rules.proofs.Counts.{C-is}
 use Rattle.rules.proofs.Bools.{and-both}
 use Rattle.rules.proofs.Judging.{inTurn-right}
 use Rattle.rules.proofs.Schedules.{length-schedule}
@@ -33,11 +38,23 @@ use Rattle.rules.proofs.InRows.{rows-good, rows-back}
 use Rattle.rules.proofs.Proved as Rules
 use Rattle.rules.proofs.Valid.{WellFormed}
 use Rattle.rules.proofs.Files.{accepted-well-formed}
-use Rattle.rules.proofs.AtCalls.{CallsAnswer, CallsPair, calls-answer, calls-pair}
+use Rattle.rules.proofs.AtCalls.{CallsAnswer, CallsPair, within, calls-answer, calls-pair}
+use Rattle.formula.specs.declared.calls.CountsAnswer.{CountsAnswer}
+use Rattle.formula.specs.declared.calls.CountsAnswer.the-variants.{Found}
+use Rattle.formula.specs.declared.calls.LiteralsAnswer.{LiteralsAnswer}
+use Rattle.formula.specs.Said.{countsAnswer}
+use Rattle.formula.proofs.Demand.{Promised, the-formula, the-counts}
 use Rattle.schedule.proofs.Answered.{accepts-exactly}
-use Rattle.demands.proofs.Demands.{Ended, WentBack, Demand2, Demand3}
+use Rattle.demands.proofs.Demands.{Counted, Spelled, Ended, WentBack, Demand2, Demand3}
 
 -- ---- what the calls gave, by the definitions
+
+counted-is : (file : List ℕ) (k : ℕ) (answer : CountsAnswer) → Counted file k answer → answer ≡ countsAnswer file k
+counted-is file k answer e = rw (← e .file-is, ← e .horizon-is) (e .promised)
+
+spelled-is : (file : List ℕ) (k c : ℕ) (room : List ℤ) (answer : LiteralsAnswer) (after : List ℤ) → Spelled file k c room answer after
+    → Promised file k c room answer after
+spelled-is file k c room answer after e = rw (← e .file-is, ← e .horizon-is, ← e .number-is, ← e .room-is, ← e .after-is) (e .promised)
 
 module _ (file : List ℕ) (k : ℕ) (phase : Phase) (rows : Rows) (entries : List ℕ) (verdict : Verdict) (after : List ℕ)
     (e : Ended file k phase rows entries verdict after) where
@@ -72,12 +89,28 @@ module _ (file : List ℕ) (fine : fileVerdict file ≡ Accepted) (k : ℕ) (sma
   pair : CallsPair file k
   pair = calls-pair file fine k small
 
+  stated : problemVerdict file k ≡ Accepted
+  unfolding problemVerdict
+  stated = within file fine k small
+
+  in-order : formula P
+      ≡ joined (family1 P ∷ family2 P ∷ family3 P ∷ family4 P ∷ family5 P ∷ family6 P ∷ family7 P ∷ family8 P ∷ [])
+  unfolding problemOf
+  in-order = Rules.demand2 T k .in-order
+
+  true-counts : Found (N P) (C P) ≡ Found (k * (S T + A T) + S T) (sum (countTable T k))
+  unfolding problemOf N
+  true-counts = ap (Found (N P)) (C-is T k)
+
   -- ---- an end that was accepted
+
+  end-holds : (phase : Phase) (rows : Rows) (entries : List ℕ) → endVerdict file k phase rows entries ≡ Accepted → ModelHolds P phase rows
+  unfolding endVerdict
+  end-holds phase rows entries h = accepted-holds P rows phase (inTurn-right (judge (lentRules file k rows entries)) _ h)
 
   module _ (phase : Phase) (rows : Rows) (entries after : List ℕ) (e : Ended file k phase rows entries Accepted after) where
     holds : ModelHolds P phase rows
-    unfolding endVerdict
-    holds = accepted-holds P rows phase (inTurn-right (judge (lentRules file k rows entries)) _ (ended-verdict file k phase rows entries Accepted after e))
+    holds = end-holds phase rows entries (ended-verdict file k phase rows entries Accepted after e)
 
     writes : after ≡ scheduleOf P (modelIn rows) ++ drop k entries
     writes =
@@ -118,6 +151,9 @@ module _ (file : List ℕ) (fine : fileVerdict file ≡ Accepted) (k : ℕ) (sma
   pub demand2 : Demand2 file k
   demand2 =
       record {
+        families = λ room after answer enough e.
+            the-formula file k stated room after answer enough (λ c. spelled-is file k c (room c) (answer c) (after c) (e c)) ∙ ap (map (map signed)) in-order;
+        counted = λ answer e. counted-is file k answer e ∙ the-counts file k stated ∙ true-counts;
         model = λ rows entries after verdict e enough c.
             let same = ended-verdict file k ModelClosed rows entries verdict after e in
             let exactly = answers .model ModelClosed rows entries (enough .rows-fit) (enough .entries-fit) in
@@ -182,10 +218,12 @@ module _ (file : List ℕ) (fine : fileVerdict file ≡ Accepted) (k : ℕ) (sma
         model-of-plan = λ moves l p.
             let schedule = padded T moves (k - length moves) in
             let size : k ≤ length schedule = omega (arith, length-padded T k moves l) in
-            let back = answers .schedule schedule blank blank-fits size .1 (plan-schedule T k moves l p) in (
-              backRows file k schedule blank,
-              λ entries after verdict e enough.
-                  sym (ended-verdict file k ModelClosed (backRows file k schedule blank) entries verdict after e)
-                  ∙ pair .back-then-end blank schedule entries enough size back .0,
+            let back = answers .schedule schedule blank blank-fits size .1 (plan-schedule T k moves l p) in
+            let rows = backRows file k schedule blank in
+            let accepted : (entries : List ℕ) → k ≤ length entries → endVerdict file k ModelClosed rows entries ≡ Accepted =
+            λ entries enough. pair .back-then-end blank schedule entries enough size back .0 in (
+              rows,
+              end-holds ModelClosed rows schedule (accepted schedule size),
+              λ entries after verdict e enough. sym (ended-verdict file k ModelClosed rows entries verdict after e) ∙ accepted entries enough,
             );
       }
