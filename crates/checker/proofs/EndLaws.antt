@@ -3,31 +3,27 @@
 use mathlib.Core.Path.{_≡_, refl, sym, ap, ap₂, _∙_}
 use mathlib.Core.Bool.{Bool, true, false, not, _&&_}
 use mathlib.Core.List.{List, [], _∷_, _++_}
-use Prim.Native.Nat.{ℕ, suc, _+_, _-_, _*_, _≤_, _<_}
+use Prim.Native.Nat.{ℕ, suc, _+_, _-_, _≤_, _<_}
 use native.Mathlib.Omega.{arith}
-use native.Mathlib.Nat.{mul-le-mul}
 use native.Mathlib.Numerals.{add-one}
 use borrow.Author.Tests.{le-leb, lt-leb, leb-true}
-use mir.Syntax.{w64}
-use mir.Val.{Fits}
 use lib.Dec.{leb}
 use lib.ListN.{length, drop}
 use Rattle.rules.specs.Counting.{first}
 use Rattle.rules.specs.Answers.{demand, noneAtFault, judge, inTurn}
-use Rattle.rules.specs.Limits.{maxHorizon, maxValues, maxActions}
-use Rattle.rules.specs.Task.{S}
+use Rattle.rules.specs.Limits.{maxHorizon}
 use Rattle.rules.specs.Problem.{Problem}
-use Rattle.rules.specs.Numbering.{stride, N}
+use Rattle.rules.specs.Numbering.{N}
 use Rattle.rules.specs.Families.{C, clause}
 use Rattle.rules.specs.Rows.{Rows, wordsFor, bitOfVariable}
 use Rattle.rules.specs.Truth.{Model, clauseTrue, modelIn}
-use Rattle.rules.specs.File.{taskOf, fileRules, fileVerdict}
+use Rattle.rules.specs.File.{taskOf}
 use Rattle.rules.specs.Lines.{rowsFit}
 use Rattle.rules.specs.Output.{ending, modelRules, outcome}
 use Rattle.rules.specs.Readings.{scheduleOf}
 use Rattle.rules.specs.Calls.{problemOf, problemRules, problemVerdict, lentAfter, endVerdict, endEntries}
 use Rattle.rules.specs.declared.Refusal.{Refusal}
-use Rattle.rules.specs.declared.Refusal.the-variants.{Horizon, Room, NotGiven, FalseClause, Unfinished, Unsatisfiable, Unknown}
+use Rattle.rules.specs.declared.Refusal.the-variants.{Room, NotGiven, FalseClause, Unfinished, Unsatisfiable, Unknown}
 use Rattle.rules.specs.declared.Verdict.{Verdict}
 use Rattle.rules.specs.declared.Verdict.the-variants.{Accepted, Refused}
 use Rattle.rules.specs.declared.Phase.{Phase}
@@ -36,68 +32,21 @@ use Rattle.rules.proofs.Endings.{accepted-holds}
 use Rattle.rules.proofs.Bools.{not-true, not-false, and-right}
 use Rattle.rules.proofs.Counting.{first-le, first-before, first-ext, length-table}
 use Rattle.rules.proofs.Judging.{judge-refused, judge-passed, judge-append, judge-nil, judge-head, inTurn-left, inTurn-right}
+use Rattle.rules.proofs.Bounds.{N-bound}
 use Rattle.rules.proofs.Loops.{judge-found, judge-none}
 use Rattle.rules.proofs.Files.{accepted-well-formed}
 use Rattle.rules.proofs.Within.{Agree, clause-same, schedule-alike}
-use Rattle.task.specs.Index.{Indexed, indexOf}
+use Rattle.task.specs.Index.{Indexed}
 use Rattle.rows.specs.Bits.{notSet}
 use Rattle.rows.specs.Bound.{mostVariables}
 use Rattle.checker.specs.Order.{complete, isFalse}
 use Rattle.checker.specs.End.{lent, endWith}
 
--- ---- the file and the horizon
-
-module _ (file : List ℕ) (k : ℕ) (v : Verdict) (e : v ≡ fileVerdict file) where
-  in-turn : problemVerdict file k ≡ inTurn v (judge (demand (leb k maxHorizon) Horizon ∷ []))
-  unfolding problemVerdict problemRules fileVerdict
-  in-turn = rw e (judge-append (fileRules file) _)
-
-  pub file-wrong : (why : Refusal) → v ≡ Refused why → v ≡ problemVerdict file k
-  file-wrong why f = rw (in-turn, f)
-
-  pub horizon-wrong : v ≡ Accepted → maxHorizon < k → Refused Horizon ≡ problemVerdict file k
-  horizon-wrong f h = sym (in-turn ∙ ap (λ v. inTurn v (judge (demand (leb k maxHorizon) Horizon ∷ []))) f ∙ judge-refused _ [] (lt-leb _ _ h))
-
-  pub problem-right : v ≡ Accepted → k ≤ maxHorizon → Accepted ≡ problemVerdict file k
-  problem-right f h =
-      sym (in-turn ∙ ap (λ v. inTurn v (judge (demand (leb k maxHorizon) Horizon ∷ []))) f ∙ judge-passed _ [] (le-leb _ _ h) ∙ judge-nil)
-
-module _ (file : List ℕ) (k : ℕ) (v : Verdict) (e : v ≡ problemVerdict file k) (f : v ≡ Accepted) where
-  both : inTurn (fileVerdict file) (judge (demand (leb k maxHorizon) Horizon ∷ [])) ≡ Accepted
-  both = sym (in-turn file k (fileVerdict file) refl) ∙ sym e ∙ f
-
-  pub file-right : fileVerdict file ≡ Accepted
-  file-right = inTurn-left _ _ both
-
-  pub horizon-right : k ≤ maxHorizon
-  horizon-right = leb-true _ _ (judge-head _ [] (inTurn-right (fileVerdict file) _ both))
-
-  pub index-right : (index : List ℕ) → index ≡ indexOf file → Indexed file index
-  index-right index g = record { accepted = file-right; filled = g }
-
 -- ---- N
 
-module _ (file index : List ℕ) (k : ℕ) (ix : Indexed file index) (low : k ≤ maxHorizon) (w : ℕ) (h : w ≡ stride (taskOf file)) where
-  product : k * w ≤ maxHorizon * (maxValues + maxActions)
-  product =
-      let t = accepted-well-formed file (ix .accepted) in
-      let l : w ≤ maxValues + maxActions = omega (arith, t .values-few, t .actions-few) in mul-le-mul low l
-
-  pub steps-fit : Fits w64 (k * w)
-  steps-fit = record { fits = omega (arith, product) }
-
-  module _ (v : ℕ) (g : v ≡ S (taskOf file)) where
-    pub variables-fit : Fits w64 (k * w + v)
-    variables-fit = record { fits = omega (arith, product, accepted-well-formed file (ix .accepted) .values-few) }
-
-    pub variables-are : k * w + v ≡ N (problemOf file k)
-    unfolding N problemOf
-    variables-are = rw (h, g) refl
-
 pub variables-few : (file index : List ℕ) (k m : ℕ) → Indexed file index → k ≤ maxHorizon → m ≡ N (problemOf file k) → m < mostVariables
-unfolding N problemOf
-variables-few file index k m ix low e =
-    omega (arith, product file index k ix low (stride (taskOf file)) refl, accepted-well-formed file (ix .accepted) .values-few)
+unfolding problemOf
+variables-few file index k m ix low e = omega (arith, N-bound (taskOf file) (accepted-well-formed file (ix .accepted)) k low)
 
 -- ---- 16 and 17
 

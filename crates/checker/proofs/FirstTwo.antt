@@ -1,23 +1,24 @@
--- The first two set bits among m, found one behind the other, and the number of their pair.
+-- How many bits are set among m; the first two of them, found one behind the other, and the number of their pair.
 -- Assumes nothing.
 use mathlib.Core.Path.{_≡_, refl, sym, ap, _∙_}
 use mathlib.Core.Logic.{⊎-elim}
-use mathlib.Core.Bool.{Bool, true, false}
+use mathlib.Core.Bool.{Bool, true, false, cond}
 use mathlib.Core.List.{List}
-use Prim.Native.Nat.{ℕ, _+_, _-_, _*_, _/_, _≤_, _<_}
+use Prim.Native.Nat.{ℕ, zero, suc, _+_, _-_, _*_, _/_, _≤_, _<_}
 use native.Mathlib.Omega.{arith}
 use native.Mathlib.Nat.{mul-le-mul}
 use mir.Syntax.{w64}
 use mir.Val.{Fits}
-use Rattle.rules.specs.Counting.{first}
+use Rattle.rules.specs.Counting.{sumTo, first}
 use Rattle.rules.specs.Limits.{maxActions}
 use Rattle.rules.specs.Counts.{pairsBelow}
 use Rattle.rules.specs.Rows.{bitOfVariable}
-use Rattle.rules.proofs.Bools.{clash, below-or}
-use Rattle.rules.proofs.Counting.{first-le, first-before, first-at}
+use Rattle.rules.proofs.Bools.{either, clash, below-or}
+use Rattle.rules.proofs.Counting.{first-before, first-at, first-none, sumTo-part}
 use Rattle.rules.proofs.Lowest.{no-pair, first-pair}
 use Rattle.rules.proofs.Pairs.{PairAt}
 use Rattle.rows.specs.Bits.{setFrom}
+use Rattle.rows.specs.Stretch.{countSet}
 use Rattle.checker.specs.Order.{FirstPair}
 
 -- ---- pairs below m
@@ -35,56 +36,95 @@ module _ (m i : ℕ) (l : i < m) (h : m ≤ maxActions) where
   pub before-fits : Fits w64 (i * (2 * m - i - 1))
   before-fits = record { fits = omega (arith, twice) }
 
-  pub number-fits : (j : ℕ) → j < m → Fits w64 (i * (2 * m - i - 1) / 2 + (j - i - 1))
-  number-fits j k = record { fits = omega (arith, twice) }
+  pub number-fits : (t : ℕ) → t < m - i - 1 → Fits w64 (i * (2 * m - i - 1) / 2 + (i + 1 + t - i - 1))
+  number-fits t k = record { fits = omega (arith, twice) }
 
-  pub second-fits : (t : ℕ) (p : ℕ → Bool) → t ≡ first (m - i - 1) p → Fits w64 (i + 1 + t)
-  second-fits t p e = record { fits = omega (arith, first-le (m - i - 1) p) }
+pair-at : (m i j : ℕ) → i < j → j < m → PairAt m (i * (2 * m - i - 1) / 2 + (j - i - 1)) i j
+pair-at m i j h l = record { rising = h; below = l; is = omega arith }
+
+-- ---- how many are set
+
+module _ (row : List ℕ) (from : ℕ) where
+  abbrev b : ℕ → Bool
+  b = setFrom row from
+
+  -- a set bit counts, beside those below it
+  counts : (m u : ℕ) → u < m → b u ≡ true → countSet row from u < countSet row from m
+  unfolding countSet setFrom
+  counts m u l t =
+      let one : _≡_ {A = ℕ} (cond (bitOfVariable row (from + u)) 1 0) 1 = rw t refl in
+      omega (arith, one, sumTo-part m (λ i. cond (bitOfVariable row (from + i)) 1 0) u l)
+
+  -- where none is set none is counted
+  none-counted : (m : ℕ) → ((u : ℕ) → u < m → b u ≡ false) → countSet row from m ≡ 0
+  unfolding countSet setFrom sumTo
+  none-counted zero none = refl
+  none-counted (suc m) none = rw (none m (omega arith)) (omega (arith, none-counted m (λ u l. none u (omega arith))))
+
+  -- where no two are set no two are counted
+  few-counted : (m : ℕ) → ((u v : ℕ) → u < v → v < m → b u ≡ true → b v ≡ true → ⊥) → countSet row from m < 2
+  unfolding countSet setFrom sumTo
+  few-counted zero few = omega arith
+  few-counted (suc m) few =
+      ⊎-elim
+      (λ t. let none : countSet row from m ≡ 0 = none-counted m (λ u l. others u l t) in rw t (omega (arith, none)))
+      (λ t. rw t (omega (arith, few-counted m (λ u v l h. few u v l (omega arith)))))
+      (either (b m))
+    where
+      others : (u : ℕ) → u < m → b m ≡ true → b u ≡ false
+      others u l t = ⊎-elim (λ z. absurd (few u m l (omega arith) z t)) (λ z. z) (either (b u))
+
+  pub some-there : (m r : ℕ) → 0 < countSet row from m → r ≡ first m b → r < m
+  some-there m r h e =
+      ⊎-elim (λ l. l) (λ l. absurd (omega (arith, none-counted m (λ u k. first-before m b u (omega arith))))) (below-or r m)
+
+  pub none-there : (m r : ℕ) → r ≡ countSet row from m → r ≡ 0 → m ≡ first m b
+  none-there m r e z =
+      sym (first-none m b (λ u l. ⊎-elim (λ t. absurd (omega (arith, counts m u l t))) (λ t. t) (either (b u))))
 
 -- ---- the first two
 
 module _ (row : List ℕ) (from m : ℕ) where
-  abbrev b : ℕ → Bool
-  b = setFrom row from
-
-  pub none-set : (i r : ℕ) → i ≡ first m b → m ≤ i → r ≡ pairsBelow m → FirstPair m b r
-  none-set i r e l h =
+  pub few-set : (n r : ℕ) → n ≡ countSet row from m → n < 2 → r ≡ pairsBelow m → FirstPair m (b row from) r
+  few-set n r e l h =
       record {
-        lowest = λ q reads. h ∙ sym (no-pair m b q reads (λ u v k w tu tv. clash tu (first-before m b u (omega arith))));
+        lowest = λ q reads.
+            h ∙ sym (no-pair m (b row from) q reads (λ u v k w tu tv. omega (arith, counts row from v u k tu, counts row from m v w tv)));
       }
 
-  module _ (i j t : ℕ) (e : i ≡ first m b) (l : i < m) (f : t ≡ first (m - i - 1) (setFrom row (from + i + 1))) (g : j ≡ i + 1 + t) where
-    set-first : b i ≡ true
-    set-first = ap b e ∙ first-at m b (omega arith)
+  module _ (i : ℕ) (e : i ≡ first m (b row from)) (l : i < m) where
+    abbrev rest : ℕ → Bool
+    rest = setFrom row (from + i + 1)
 
-    before-first : (u : ℕ) → u < i → b u ≡ false
-    before-first u h = first-before m b u (omega arith)
+    before-first : (u : ℕ) → u < i → b row from u ≡ false
+    before-first u h = first-before m (b row from) u (omega arith)
 
     -- a bit behind the first, counted from there
-    behind : (u : ℕ) → i < u → setFrom row (from + i + 1) (u - i - 1) ≡ b u
+    behind : (u : ℕ) → i < u → rest (u - i - 1) ≡ b row from u
     unfolding setFrom
     behind u h = ap (bitOfVariable row) (omega arith)
 
-    between : (u : ℕ) → i < u → u < j → b u ≡ false
-    between u h k = sym (behind u h) ∙ first-before (m - i - 1) (setFrom row (from + i + 1)) (u - i - 1) (omega arith)
+    -- where two are counted, one is behind the first
+    pub second-counted : (n : ℕ) → n ≡ countSet row from m → 2 ≤ n → 0 < countSet row (from + i + 1) (m - i - 1)
+    second-counted n g h = ⊎-elim (λ z. z) (λ z. absurd (omega (arith, few-counted row from m (λ u v k w tu tv. no-two z u v k w tu tv)))) (below-or 0 _)
+      where
+        no-two : countSet row (from + i + 1) (m - i - 1) ≤ 0 → (u v : ℕ) → u < v → v < m → b row from u ≡ true → b row from v ≡ true → ⊥
+        no-two z u v k w tu tv =
+            ⊎-elim (λ q. clash tu (before-first u q))
+            (λ q. omega (arith, counts row (from + i + 1) (m - i - 1) (v - i - 1) (omega arith) (behind v (omega arith) ∙ tv)))
+            (below-or u i)
 
-    pub one-set : (r : ℕ) → m ≤ j → r ≡ pairsBelow m → FirstPair m b r
-    one-set r h p =
-        record {
-          lowest = λ q reads.
-              p ∙ sym (no-pair m b q reads (λ u v k w tu tv.
-              ⊎-elim (λ z. clash tu (before-first u z)) (λ z. clash tv (between v (omega arith) (omega arith))) (below-or u i)));
-        }
+    module _ (j t : ℕ) (f : t ≡ first (m - i - 1) rest) (g : j ≡ i + 1 + t) (k : t < m - i - 1) where
+      between : (u : ℕ) → i < u → u < j → b row from u ≡ false
+      between u h w = sym (behind u h) ∙ first-before (m - i - 1) rest (u - i - 1) (omega arith)
 
-    set-second : j < m → b j ≡ true
-    set-second h =
-        sym (behind j (omega arith))
-        ∙ ap (setFrom row (from + i + 1)) (omega arith)
-        ∙ first-at (m - i - 1) (setFrom row (from + i + 1)) (omega arith)
+      set-first : b row from i ≡ true
+      set-first = ap (b row from) e ∙ first-at m (b row from) (omega arith)
 
-    pub two-set : j < m → FirstPair m b (i * (2 * m - i - 1) / 2 + (j - i - 1))
-    two-set h =
-        let at : PairAt m (i * (2 * m - i - 1) / 2 + (j - i - 1)) i j = record { rising = omega arith; below = h; is = omega arith } in
-        record {
-          lowest = λ q reads. sym (first-pair m b q reads (i * (2 * m - i - 1) / 2 + (j - i - 1)) i j at set-first (set-second h) before-first between);
-        }
+      set-second : b row from j ≡ true
+      set-second = sym (behind j (omega arith)) ∙ ap rest (omega arith) ∙ first-at (m - i - 1) rest (omega arith)
+
+      pub two-set : FirstPair m (b row from) (i * (2 * m - i - 1) / 2 + (j - i - 1))
+      two-set =
+          let at = pair-at m i j (omega arith) (omega arith) in
+          record { lowest = λ q reads. sym (first-pair m (b row from) q reads _ i j at set-first set-second before-first between) }

@@ -4,7 +4,7 @@ use mathlib.Core.Path.{_≡_, refl, sym, ap, ap₂, _∙_}
 use mathlib.Core.Logic.{⊎-elim}
 use mathlib.Core.Bool.{Bool, true, false, not, _&&_}
 use mathlib.Core.List.{List}
-use Prim.Native.Nat.{ℕ, suc, _+_, _*_, _≤_, _<_}
+use Prim.Native.Nat.{ℕ, suc, _+_, _*_, _^_, _≤_, _<_}
 use native.Mathlib.Omega.{arith}
 use native.Mathlib.Nat.{mul-le-mul}
 use native.Mathlib.Numerals.{add-one}
@@ -173,6 +173,9 @@ module _ (file index row : List ℕ) (k : ℕ) where
     actions-room m e g =
         let t = accepted-well-formed file (ix .accepted) in
         omega (arith, steps-few, t .values-few, t .actions-few)
+
+    pub actions-word : (m : ℕ) → from ≡ actionNumber (atAnyHorizon file) s 0 → m ≡ A T → from + m < 2 ^ 64
+    actions-word m e g = omega (arith, actions-room m e g)
 
   module _ (s from : ℕ) where
     pub value-from : (x : ℕ) → from ≡ valueNumber (atAnyHorizon file) s x 0 → 0 < from

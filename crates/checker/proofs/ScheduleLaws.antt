@@ -1,7 +1,7 @@
 -- The schedule that a model states, entry by entry.
 -- Assumes nothing.
 use mathlib.Core.Path.{_≡_, refl, sym, ap, ap₂, _∙_}
-use mathlib.Core.Bool.{true, cond}
+use mathlib.Core.Bool.{cond}
 use mathlib.Core.List.{List, [], _∷_, _++_, append-assoc}
 use Prim.Native.Nat.{ℕ, suc, _+_, _≤_, _<_}
 use native.Mathlib.Omega.{arith}
@@ -24,7 +24,9 @@ use Rattle.rules.proofs.Files.{accepted-well-formed}
 use Rattle.task.specs.Index.{Indexed}
 use Rattle.task.specs.Numbers.{atAnyHorizon}
 use Rattle.rows.specs.Bits.{setFrom}
+use Rattle.rows.specs.Stretch.{countSet}
 use Rattle.checker.specs.Order.{complete}
+use Rattle.checker.proofs.FirstTwo.{none-there}
 
 module _ (file row : List ℕ) (s : ℕ) where
   abbrev T : Task
@@ -46,10 +48,10 @@ module _ (file row : List ℕ) (s : ℕ) where
       let z : trueAction (atAnyHorizon file) (complete row) s ≡ t = true-is m from t g e h in
       add-one t ∙ sym (ap₂ (λ b u. cond b (suc u) 0) (lt-ltb (trueAction (atAnyHorizon file) (complete row) s) (A T) (omega arith)) z)
 
-  pub entry-none : (m from t : ℕ) → m ≡ A T → from ≡ actionNumber (atAnyHorizon file) s 0 → t ≡ first m (setFrom row from) → m ≤ t → 0 ≡ stated
+  pub entry-none : (m from c : ℕ) → m ≡ A T → from ≡ actionNumber (atAnyHorizon file) s 0 → c ≡ countSet row from m → c ≡ 0 → 0 ≡ stated
   unfolding entryOf
-  entry-none m from t g e h l =
-      let z : trueAction (atAnyHorizon file) (complete row) s ≡ t = true-is m from t g e h in
+  entry-none m from c g e h l =
+      let z : trueAction (atAnyHorizon file) (complete row) s ≡ m = true-is m from m g e (none-there row from m c h l) in
       sym (ap (λ b. cond b (suc (trueAction (atAnyHorizon file) (complete row) s)) 0) (le-ltb (trueAction (atAnyHorizon file) (complete row) s) (A T) (omega arith)))
 
   pub entry-idle : (m : ℕ) → m ≡ A T → m ≡ 0 → 0 ≡ stated

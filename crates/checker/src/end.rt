@@ -8,11 +8,10 @@ use rules::Phase;
 use rules::Reading;
 use rules::Refusal;
 use rules::Verdict;
-use task::file::file_verdict;
 use task::filling::fill_index;
 use task::index::INDEX_LENGTH;
-use task::index::step_width;
-use task::index::values;
+use task::problem::count_variables;
+use task::problem::problem_verdict;
 ghost use mathlib.Core.Path.{_≡_};
 ghost use mathlib.Core.Bool.{_&&_};
 ghost use Prim.Native.Nat.{_≤_};
@@ -22,33 +21,9 @@ ghost use Rattle.rules.specs.Limits.{maxHorizon};
 ghost use Rattle.rules.specs.Numbering.{N};
 ghost use Rattle.rules.specs.Lines.{rowsFit};
 ghost use Rattle.rules.specs.Output.{ending, modelRules};
-ghost use Rattle.rules.specs.Calls.{problemOf, problemVerdict, endVerdict, endEntries};
+ghost use Rattle.rules.specs.Calls.{problemOf, endVerdict, endEntries};
 ghost use Rattle.task.specs.Index.{Indexed};
 ghost use Rattle.checker.specs.End.{lent, endWith};
-
-const MAX_HORIZON: usize = 64;
-
-// Refusals 1 to 8.
-fn problem_verdict(file: &[u8], horizon: usize) -> Verdict
-    ensures { λ r. ⌜ r ≡ problemVerdict (now (file .entry)) horizon ⌝ }
-{
-    let verdict = file_verdict(file);
-    let Verdict::Accepted = verdict else {
-        return verdict;
-    };
-    if MAX_HORIZON < horizon {
-        return Verdict::Refused(Refusal::Horizon);
-    }
-    Verdict::Accepted
-}
-
-// N.
-fn formula_variables(file: &[u8], index: &[usize], horizon: usize) -> usize
-    requires { ⌜ Indexed (now file) (now index) × (horizon ≤ maxHorizon) ⌝ }
-    ensures { λ r. ⌜ r ≡ N (problemOf (now (file .entry)) horizon) ⌝ }
-{
-    horizon * step_width(file, index) + values(file, index)
-}
 
 // What the status alone decides.
 fn status_verdict(phase: Phase) -> Verdict
@@ -74,7 +49,7 @@ fn model_verdict(
     requires { ⌜ Indexed (now file) (now index) × (horizon ≤ maxHorizon) ⌝ }
     ensures { λ r. ⌜ r ≡ judge (modelRules (problemOf (now (file .entry)) horizon) (lent (now (given .entry)) (now (truth .entry)))) ⌝ }
 {
-    let variables = formula_variables(file, index, horizon);
+    let variables = count_variables(file, index, horizon);
     let missing = first_unset(given, variables);
     if missing < variables {
         return Verdict::Refused(Refusal::NotGiven(missing + 1));
@@ -98,7 +73,7 @@ fn room_fits(
     requires { ⌜ Indexed (now file) (now index) × (horizon ≤ maxHorizon) ⌝ }
     ensures { λ r. ⌜ r ≡ (rowsFit (N (problemOf (now (file .entry)) horizon)) (lent (now (given .entry)) (now (truth .entry))) && leb horizon room) ⌝ }
 {
-    let words = words_for(formula_variables(file, index, horizon));
+    let words = words_for(count_variables(file, index, horizon));
     if given.len() < words {
         return false;
     }

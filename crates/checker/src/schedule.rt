@@ -1,6 +1,7 @@
 // The schedule that a model states.
 use crate::bits::first_action;
-use rows::first_set;
+use crate::pairs::first_of_some;
+use rows::count_set;
 use task::index::actions;
 ghost use mathlib.Core.Path.{_≡_};
 ghost use mathlib.Core.List.{_++_};
@@ -22,11 +23,12 @@ fn entry_at(file: &[u8], index: &[usize], row: &[u64], step: usize) -> u32
     if count == 0 {
         return 0;
     }
-    let t = first_set(row, first_action(file, index, step), count);
-    if t < count {
-        return (t + 1) as u32;
+    let from = first_action(file, index, step);
+    if count_set(row, from, count) == 0 {
+        return 0;
     }
-    0
+    let t = first_of_some(row, from, count);
+    (t + 1) as u32
 }
 
 // The entries of all steps; those behind them stay.

@@ -1,8 +1,9 @@
 // The end of a reading on models of the folder example and of one other task. A line shows the refusal's number and detail, or 0 0, and
-// then the four entries that were lent: all 9 before the call.
+// then the four entries that were lent: all 9 before the call. Two lines show how many models of all at a horizon are accepted.
 use rules::Phase;
 use rules::Reading;
 use rules::Verdict;
+ghost use Prim.Native.Nat.{_≤_};
 
 const ALL: u64 = 18446744073709551615;
 
@@ -40,38 +41,59 @@ fn finish(file: &[u8], horizon: usize, phase: Phase, given: u64, truth: u64) {
     io::write_all(1, b"\n");
 }
 
-fn folder(horizon: usize, phase: Phase, given: u64, truth: u64) {
-    finish(
-        b"\x10\x00\x02\x00\x12\x00\x02\x00\x14\x00\x02\x00\x16\x00\x10\x00\x02\x02\x00\x00\x01\x01\x01\x01\x00\x00\x00\x01\x02\x02\x00\x01\x01\x00\x00\x00\x01\x01",
-        horizon,
-        phase,
-        given,
-        truth,
-    );
+// 1 for a model that is accepted, 0 for another.
+fn accepted(file: &[u8], horizon: usize, truth: u64) -> u64
+    ensures { λ r. ⌜ r ≤ 1 ⌝ }
+{
+    let mut entries = [9u32; 4];
+    let reading = Reading {
+        highest: 0,
+        phase: Phase::ModelClosed,
+    };
+    let verdict = checker::end::finish(file, horizon, reading, &[ALL], &[truth], &mut entries);
+    match verdict {
+        Verdict::Accepted => 1,
+        Verdict::Refused(_) => 0,
+    }
 }
 
-fn model(horizon: usize, truth: u64) {
-    folder(horizon, Phase::ModelClosed, ALL, truth);
+// How many of the first models, by their row, are accepted.
+fn count_accepted(file: &[u8], horizon: usize, models: u64) {
+    let mut count = 0;
+    let mut truth = 0;
+    while truth < models {
+        count += accepted(file, horizon, truth);
+        truth += 1;
+    }
+    print(count);
+    io::write_all(1, b"\n");
 }
 
-fn main() {
+fn model(file: &[u8], horizon: usize, truth: u64) {
+    finish(file, horizon, Phase::ModelClosed, ALL, truth);
+}
+
+fn run(file: &[u8]) {
     // P7, and P8's four: (0,1,2) (1,0,2) (1,2,0) (1,2,1)
-    model(2, TAKE_AND_RUN);
-    model(3, 2516293);
-    model(3, 2515349);
-    model(3, 2398613);
-    model(3, 2726293);
+    model(file, 2, TAKE_AND_RUN);
+    model(file, 3, 2516293);
+    model(file, 3, 2515349);
+    model(file, 3, 2398613);
+    model(file, 3, 2726293);
     // P6: at horizon 1 run is carried out, but nothing was taken; at horizon 0 the goal is unmet
-    model(1, 613);
-    model(0, 5);
+    model(file, 1, 613);
+    model(file, 0, 5);
+    // of all models at a horizon: none at 1, one at 2
+    count_accepted(file, 1, 1024);
+    count_accepted(file, 2, 65536);
     // P12: 16 is false; then one clause of each other family is: 1 2 3 4 5 6 7
-    model(2, 6549);
-    model(2, 39316);
-    model(2, 39189);
-    model(2, 39381);
-    model(2, 39349);
-    model(2, 43413);
-    model(2, 37253);
+    model(file, 2, 6549);
+    model(file, 2, 39316);
+    model(file, 2, 39189);
+    model(file, 2, 39381);
+    model(file, 2, 39349);
+    model(file, 2, 43413);
+    model(file, 2, 37253);
     // family 8: two actions with no pairs
     finish(
         b"\x10\x00\x01\x00\x11\x00\x01\x00\x12\x00\x00\x00\x12\x00\x04\x00\x01\x00\x00\x00\x00\x00",
@@ -81,13 +103,19 @@ fn main() {
         15,
     );
     // a variable that is not given; the other ends; no room; a horizon that is too high; no file
-    folder(2, Phase::ModelClosed, 32767, TAKE_AND_RUN);
-    folder(2, Phase::NoStatus, ALL, TAKE_AND_RUN);
-    folder(2, Phase::ModelOpen, ALL, TAKE_AND_RUN);
-    folder(2, Phase::SaidUnsatisfiable, ALL, TAKE_AND_RUN);
-    folder(2, Phase::SaidUnknown, ALL, TAKE_AND_RUN);
-    model(5, 0);
-    model(11, 0);
-    model(65, 0);
+    finish(file, 2, Phase::ModelClosed, 32767, TAKE_AND_RUN);
+    finish(file, 2, Phase::NoStatus, ALL, TAKE_AND_RUN);
+    finish(file, 2, Phase::ModelOpen, ALL, TAKE_AND_RUN);
+    finish(file, 2, Phase::SaidUnsatisfiable, ALL, TAKE_AND_RUN);
+    finish(file, 2, Phase::SaidUnknown, ALL, TAKE_AND_RUN);
+    model(file, 5, 0);
+    model(file, 11, 0);
+    model(file, 65, 0);
     finish(b"", 2, Phase::ModelClosed, ALL, TAKE_AND_RUN);
+}
+
+fn main() {
+    run(
+        b"\x10\x00\x02\x00\x12\x00\x02\x00\x14\x00\x02\x00\x16\x00\x10\x00\x02\x02\x00\x00\x01\x01\x01\x01\x00\x00\x00\x01\x02\x02\x00\x01\x01\x00\x00\x00\x01\x01",
+    );
 }

@@ -1,6 +1,6 @@
 // The clause program: a horizon byte, then a task file, on standard input; the formula's text, or one line `refused N D`, on standard output.
 // All that it does here is to move bytes: `text` and `printing` promise which.
-use formula::calls::problem_verdict;
+use task::problem::problem_verdict;
 use formula::families::count_clauses;
 use libc::STDIN_FILENO;
 use libc::STDOUT_FILENO;

@@ -1,11 +1,11 @@
 -- The calls' answers: which rule decides each, in their order.
 -- Assumes nothing.
-use mathlib.Core.Path.{_≡_, refl, sym, ap, _∙_}
+use mathlib.Core.Path.{_≡_, sym, ap, _∙_}
 use mathlib.Core.List.{List, [], _∷_}
 use Prim.Native.Nat.{ℕ, _≤_, _<_}
 use native.Mathlib.Omega.{arith}
-use borrow.Author.Tests.{leb-true, le-leb, lt-leb, lt-ltb, le-ltb}
-use lib.Dec.{leb, ltb}
+use borrow.Author.Tests.{le-leb, lt-leb, lt-ltb, le-ltb}
+use lib.Dec.{ltb}
 use lib.IntN.{ℤ}
 use lib.ListN.{length}
 use Rattle.rules.specs.Limits.{maxHorizon}
@@ -13,14 +13,15 @@ use Rattle.rules.specs.Answers.{demand, judge, inTurn}
 use Rattle.rules.specs.Problem.{problem}
 use Rattle.rules.specs.Numbering.{N}
 use Rattle.rules.specs.Families.{C, clause}
-use Rattle.rules.specs.File.{taskOf, fileRules, fileVerdict}
+use Rattle.rules.specs.File.{taskOf}
 use Rattle.rules.specs.Calls.{problemOf, problemRules, clauseRules, roomRule, lentAfter, problemVerdict, clauseSigned, clauseVerdict}
 use Rattle.rules.specs.declared.Refusal.{Refusal}
-use Rattle.rules.specs.declared.Refusal.the-variants.{Horizon, ClauseNumber, Room}
+use Rattle.rules.specs.declared.Refusal.the-variants.{ClauseNumber, Room}
 use Rattle.rules.specs.declared.Verdict.{Verdict}
 use Rattle.rules.specs.declared.Verdict.the-variants.{Accepted, Refused}
-use Rattle.rules.proofs.Judging.{judge-nil, judge-refused, judge-passed, judge-head, judge-append, inTurn-left, inTurn-right}
-use Rattle.task.specs.Index.{indexOf, Indexed}
+use Rattle.rules.proofs.Judging.{judge-nil, judge-refused, judge-passed, judge-append}
+use Rattle.task.specs.Index.{Indexed}
+use Rattle.task.proofs.Stated.{problem-accepted}
 use Rattle.digits.proofs.Overs.{over-front}
 use Rattle.formula.specs.declared.place.Place.{Place}
 use Rattle.formula.specs.declared.calls.CountsAnswer.the-variants as counts
@@ -32,36 +33,7 @@ use Rattle.formula.specs.Said.{countsAnswer, literalsAnswer}
 module _ (file : List ℕ) (k : ℕ) where
   -- ---- refusals 1 to 8
 
-  in-turn : problemVerdict file k ≡ inTurn (fileVerdict file) (judge (demand (leb k maxHorizon) Horizon ∷ []))
-  unfolding problemVerdict problemRules fileVerdict
-  in-turn = judge-append (fileRules file) _
-
-  module _ (v : Verdict) (e : v ≡ fileVerdict file) where
-    pub file-wrong : (why : Refusal) → v ≡ Refused why → v ≡ problemVerdict file k
-    file-wrong why f = rw (in-turn, ← e, f)
-
-    pub horizon-wrong : v ≡ Accepted → maxHorizon < k → Refused Horizon ≡ problemVerdict file k
-    horizon-wrong f h = rw (in-turn, ← e, f) (sym (judge-refused _ [] (lt-leb k maxHorizon h)))
-
-    pub problem-right : v ≡ Accepted → k ≤ maxHorizon → Accepted ≡ problemVerdict file k
-    problem-right f h = rw (in-turn, ← e, f) (sym (judge-passed _ [] (le-leb k maxHorizon h) ∙ judge-nil))
-
-  problem-accepted : fileVerdict file ≡ Accepted → k ≤ maxHorizon → problemVerdict file k ≡ Accepted
-  problem-accepted f h = sym (problem-right (fileVerdict file) refl f h)
-
   module _ (v : Verdict) (e : v ≡ problemVerdict file k) where
-    turns : v ≡ Accepted → inTurn (fileVerdict file) (judge (demand (leb k maxHorizon) Horizon ∷ [])) ≡ Accepted
-    turns f = sym in-turn ∙ sym e ∙ f
-
-    pub file-accepted : v ≡ Accepted → fileVerdict file ≡ Accepted
-    file-accepted f = inTurn-left (fileVerdict file) _ (turns f)
-
-    pub horizon-right : v ≡ Accepted → k ≤ maxHorizon
-    horizon-right f = leb-true k maxHorizon (judge-head _ [] (inTurn-right (fileVerdict file) _ (turns f)))
-
-    pub indexed : (index : List ℕ) → v ≡ Accepted → index ≡ indexOf file → Indexed file index
-    indexed index f i = record { accepted = file-accepted f; filled = i }
-
     pub counts-refused : (why : Refusal) → v ≡ Refused why → counts.Refused why ≡ countsAnswer file k
     unfolding countsAnswer
     counts-refused why f = rw (← e, f)
@@ -119,7 +91,7 @@ module _ (file : List ℕ) (k : ℕ) where
 
     module _ (index : List ℕ) (ix : Indexed file index) (hk : k ≤ maxHorizon) (clauses : ℕ) (ec : clauses ≡ C (problemOf file k)) where
       fine : problemVerdict file k ≡ Accepted
-      fine = problem-accepted (ix .accepted) hk
+      fine = problem-accepted file k (ix .accepted) hk
 
       module _ (h : clauses ≤ c) where
         wrong-number : clauseVerdict file k c (length lent) ≡ Refused ClauseNumber

@@ -10,16 +10,15 @@ use mir.Syntax.{w64}
 use mir.Val.{Fits}
 use lib.ListN.{length, getD}
 use Rattle.rules.specs.Counting.{sumTo}
-use Rattle.rules.specs.Limits.{maxVariables, maxActions, maxHorizon, maxC, maxN}
+use Rattle.rules.specs.Limits.{maxVariables, maxActions, maxHorizon, maxC}
 use Rattle.rules.specs.Task.{Task, n, S, A}
-use Rattle.rules.specs.Numbering.{stride, N}
 use Rattle.rules.specs.Families.{C}
 use Rattle.rules.specs.Counts.{pairsBelow, countTable}
 use Rattle.rules.specs.File.{taskOf}
 use Rattle.rules.specs.Calls.{problemOf}
 use Rattle.rules.proofs.Counting.{sumTo-part}
 use Rattle.rules.proofs.Counts.{C-is}
-use Rattle.rules.proofs.Bounds.{N-bound, C-bound}
+use Rattle.rules.proofs.Bounds.{C-bound}
 use Rattle.rules.proofs.ByNumber.{clausesBefore}
 use Rattle.rules.proofs.Valid.{WellFormed}
 use Rattle.rules.proofs.Files.{accepted-well-formed}
@@ -177,17 +176,3 @@ module _ (file : List ℕ) (k : ℕ) where
 
     pub sum-fits : (f sum count : ℕ) → f < familyCount → sum ≡ clausesBefore T k f → count ≡ countOf T k f → Fits w64 (sum + count)
     sum-fits f sum count h e ec = record { fits = omega (arith, within f h, clauses-few) }
-
-    variables-bound : k * stride T + S T ≤ maxN
-    unfolding N
-    variables-bound = N-bound T few k hk
-
-    pub variables-fit : (w : ℕ) → w ≡ stride T → Fits w64 (k * w)
-    variables-fit w e = record { fits = omega (arith, ap (λ w. k * w) e, variables-bound) }
-
-    pub variables-fit₁ : (w v : ℕ) → w ≡ stride T → v ≡ S T → Fits w64 (k * w + v)
-    variables-fit₁ w v e ev = record { fits = omega (arith, ap (λ w. k * w) e, variables-bound) }
-
-  pub variables-are : (w v : ℕ) → w ≡ stride T → v ≡ S T → k * w + v ≡ N (problemOf file k)
-  unfolding N problemOf
-  variables-are w v e ev = rw (e, ev)

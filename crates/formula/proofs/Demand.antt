@@ -20,7 +20,8 @@ use Rattle.formula.specs.declared.calls.CountsAnswer.the-variants as cou
 use Rattle.formula.specs.declared.calls.LiteralsAnswer.{LiteralsAnswer}
 use Rattle.formula.specs.declared.calls.LiteralsAnswer.the-variants as literals
 use Rattle.formula.specs.Said.{countsAnswer, literalsAnswer}
-use Rattle.formula.proofs.Answered.{file-accepted, accepts}
+use Rattle.task.proofs.Stated.{file-accepted}
+use Rattle.formula.proofs.Answered.{accepts}
 
 -- the words that an answer says were written
 abbrev pub wordsOf : LiteralsAnswer → List ℤ → List ℤ

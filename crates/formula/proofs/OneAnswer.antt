@@ -4,24 +4,18 @@
 use mathlib.Core.Path.{_≡_, sym, _∙_}
 use Prim.Native.Nat.{ℕ}
 use denote.Ref.{now}
-use Rattle.rules.specs.declared.Verdict.{Verdict}
 use Rattle.formula.specs.declared.calls.CountsAnswer.{CountsAnswer}
 use Rattle.formula.specs.declared.calls.LiteralsAnswer.{LiteralsAnswer}
 use Rattle.formula.proofs.families.width.Reads as width
 use Rattle.formula.proofs.families.count_of.Reads as count-of
 use Rattle.formula.proofs.families.count_clauses.Reads as count-clauses
-use Rattle.formula.proofs.families.count_variables.Reads as count-variables
 use Rattle.formula.proofs.clauses.literal_count.Reads as literal-count
 use Rattle.formula.proofs.clauses.put_clause.Reads as put-clause
-use Rattle.formula.proofs.calls.problem_verdict.Reads as problem-verdict
 use Rattle.formula.proofs.calls.counts.Reads as counts
 use Rattle.formula.proofs.calls.literals.Reads as literals
 use Rattle.formula.proofs.calls.literals_indexed.Reads as literals-indexed
 
 -- ---- the calls
-
-pub one-problem-verdict : (κs : _) (a : _) (r s : Verdict) (x : _) → problem-verdict.Post κs a r x → problem-verdict.Post κs a s x → r ≡ s
-one-problem-verdict κs a r s x p q = p ∙ sym q
 
 pub one-counts : (κs : _) (a : _) (r s : CountsAnswer) (x : _) → counts.Post κs a r x → counts.Post κs a s x → r ≡ s
 one-counts κs a r s x p q = p ∙ sym q
@@ -50,9 +44,6 @@ one-count-of κs a r s x p q = p ∙ sym q
 
 pub one-count-clauses : (κs : _) (a : _) (r s : ℕ) (x : _) → count-clauses.Post κs a r x → count-clauses.Post κs a s x → r ≡ s
 one-count-clauses κs a r s x p q = p ∙ sym q
-
-pub one-count-variables : (κs : _) (a : _) (r s : ℕ) (x : _) → count-variables.Post κs a r x → count-variables.Post κs a s x → r ≡ s
-one-count-variables κs a r s x p q = p ∙ sym q
 
 pub one-literal-count : (κs : _) (a : _) (r s : ℕ) (x : _) → literal-count.Post κs a r x → literal-count.Post κs a s x → r ≡ s
 one-literal-count κs a r s x p q = p ∙ sym q

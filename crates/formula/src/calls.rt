@@ -2,22 +2,20 @@
 use crate::clauses::literal_count;
 use crate::clauses::put_clause;
 use crate::families::count_clauses;
-use crate::families::count_variables;
 use crate::placing::place_of;
 use rules::Refusal;
 use rules::Verdict;
-use task::file::file_verdict;
 use task::filling::fill_index;
 use task::index::INDEX_LENGTH;
+use task::problem::count_variables;
+use task::problem::problem_verdict;
 ghost use mathlib.Core.Path.{_≡_};
 ghost use Prim.Native.Nat.{_≤_};
 ghost use lib.ListN.{length};
 ghost use Rattle.rules.specs.Limits.{maxHorizon};
-ghost use Rattle.rules.specs.Calls.{lentAfter, problemVerdict, clauseSigned, clauseVerdict};
+ghost use Rattle.rules.specs.Calls.{lentAfter, clauseSigned, clauseVerdict};
 ghost use Rattle.task.specs.Index.{Indexed};
 ghost use Rattle.formula.specs.Said.{countsAnswer, literalsAnswer};
-
-pub const MAX_HORIZON: usize = 64;
 
 // N and C.
 pub enum CountsAnswer {
@@ -29,20 +27,6 @@ pub enum CountsAnswer {
 pub enum LiteralsAnswer {
     Count(usize),
     Refused(Refusal),
-}
-
-// Refusals 1 to 8.
-pub fn problem_verdict(file: &[u8], horizon: usize) -> Verdict
-    ensures { λ r. ⌜ r ≡ problemVerdict (now (file .entry)) horizon ⌝ }
-{
-    let verdict = file_verdict(file);
-    let Verdict::Accepted = verdict else {
-        return verdict;
-    };
-    if MAX_HORIZON < horizon {
-        return Verdict::Refused(Refusal::Horizon);
-    }
-    Verdict::Accepted
 }
 
 // N and C of a file at a horizon.

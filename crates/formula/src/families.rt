@@ -1,17 +1,15 @@
-// The families by their number f, from 0: at how many steps each has clauses, how many at a step and in all; N and C.
+// The families by their number f, from 0: at how many steps each has clauses, how many at a step and in all; C.
 use task::asked::goals;
 use task::asked::variables;
 use task::index::actions;
 use task::index::effects_before;
 use task::index::preconditions_before;
-use task::index::step_width;
 use task::index::value_pairs_before;
 use task::index::values;
 ghost use mathlib.Core.Path.{_≡_};
 ghost use Prim.Native.Nat.{_≤_, _<_};
 ghost use Rattle.rules.specs.Limits.{maxActions, maxHorizon};
 ghost use Rattle.rules.specs.Counts.{pairsBelow};
-ghost use Rattle.rules.specs.Numbering.{N};
 ghost use Rattle.rules.specs.Families.{C};
 ghost use Rattle.rules.specs.File.{taskOf};
 ghost use Rattle.rules.specs.Calls.{problemOf};
@@ -93,12 +91,4 @@ pub fn count_clauses(file: &[u8], index: &[usize], horizon: usize) -> usize
         f += 1;
     }
     sum
-}
-
-// N.
-pub fn count_variables(file: &[u8], index: &[usize], horizon: usize) -> usize
-    requires { ⌜ Indexed (now file) (now index) × (horizon ≤ maxHorizon) ⌝ }
-    ensures { λ r. ⌜ r ≡ N (problemOf (now (file .entry)) horizon) ⌝ }
-{
-    horizon * step_width(file, index) + values(file, index)
 }

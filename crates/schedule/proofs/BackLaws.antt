@@ -3,47 +3,35 @@
 use mathlib.Core.Path.{_≡_, refl, sym, ap, _∙_}
 use mathlib.Core.Bool.{Bool, true, false, not, _&&_}
 use mathlib.Core.List.{List, [], _∷_, _++_, append-assoc}
-use Prim.Native.Nat.{ℕ, _+_, _*_, _≤_, _<_}
+use Prim.Native.Nat.{ℕ, _+_, _≤_, _<_}
 use native.Mathlib.Omega.{arith}
 use borrow.Author.Tests.{le-leb, lt-leb, leb-true}
-use mir.Syntax.{w64}
-use mir.Val.{Fits}
 use lib.Dec.{leb}
 use lib.ListN.{length, replicate}
 use Rattle.rules.specs.Limits.{maxHorizon}
 use Rattle.rules.specs.Answers.{Rule, demand, judge, inTurn}
-use Rattle.rules.specs.Task.{Task, S}
-use Rattle.rules.specs.Numbering.{stride, N}
-use Rattle.rules.specs.File.{taskOf, fileRules, fileVerdict}
+use Rattle.rules.specs.Task.{Task}
+use Rattle.rules.specs.Numbering.{N}
+use Rattle.rules.specs.File.{taskOf, fileVerdict}
 use Rattle.rules.specs.Rows.{wordsFor, packed, overRow}
 use Rattle.rules.specs.Lines.{rowsFit}
 use Rattle.rules.specs.Walk.{CarriedOut, scheduleRules}
 use Rattle.rules.specs.Readings.{assignmentOf, rowsOf}
-use Rattle.rules.specs.Calls.{problemOf, problemRules, backVerdict, backRows}
+use Rattle.rules.specs.Calls.{problemOf, problemRules, problemVerdict, backVerdict, backRows}
 use Rattle.rules.specs.declared.Refusal.{Refusal}
-use Rattle.rules.specs.declared.Refusal.the-variants.{Horizon, Room}
+use Rattle.rules.specs.declared.Refusal.the-variants.{Room}
 use Rattle.rules.specs.declared.Verdict.{Verdict}
 use Rattle.rules.specs.declared.Verdict.the-variants.{Accepted, Refused}
 use Rattle.rules.proofs.Bools.{and-left, and-right, not-true, not-false}
 use Rattle.rules.proofs.Judging.{judge-refused, judge-passed, judge-append}
 use Rattle.rules.proofs.Files.{accepted-well-formed}
 use Rattle.rules.proofs.Schedules.{carried-out}
-use Rattle.task.specs.Index.{Indexed, indexOf}
+use Rattle.task.specs.Index.{Indexed}
 use Rattle.task.specs.Numbers.{atAnyHorizon}
-use Rattle.task.proofs.Asking.{stride-few, number-fits₁}
+use Rattle.task.proofs.Stated.{problem-accepted}
 use Rattle.schedule.specs.Checked.{checkedVerdict}
 use Rattle.schedule.specs.Written.{lent, fits, allSet, allTrueSet}
 use Rattle.schedule.proofs.BackBits.{all-given, all-true}
-
--- ---- N
-
-pub highest-fits : (file index : List ℕ) (k w v : ℕ) → Indexed file index → k ≤ maxHorizon → w ≡ stride (taskOf file) → v ≡ S (taskOf file)
-    → Fits w64 (k * w + v)
-highest-fits file index k w v ix hk ew ev = number-fits₁ k w v hk (stride-few file index ix w ew) (omega arith)
-
-pub highest-is : (file : List ℕ) (k w v : ℕ) → w ≡ stride (taskOf file) → v ≡ S (taskOf file) → k * w + v ≡ N (problemOf file k)
-unfolding problemOf N
-highest-is file k w v ew ev = rw (ew, ev)
 
 -- ---- the rows
 
@@ -64,62 +52,45 @@ module _ (file : List ℕ) (k : ℕ) (entries : List ℕ) (room : Bool) where
   abbrev inOrder : Verdict
   inOrder = judge (problemRules file k ++ (demand room Room ∷ []) ++ scheduleRules (taskOf file) k entries)
 
-  -- from room on, and from the horizon on
+  -- from room on
   abbrev roomRules : List Rule
   roomRules = demand room Room ∷ scheduleRules (taskOf file) k entries
 
-  abbrev horizonRules : List Rule
-  horizonRules = demand (leb k maxHorizon) Horizon ∷ roomRules
-
-  in-turn : (v : Verdict) → v ≡ fileVerdict file → inOrder ≡ inTurn v (judge horizonRules)
-  unfolding problemRules fileVerdict
+  in-turn : (v : Verdict) → v ≡ problemVerdict file k → inOrder ≡ inTurn v (judge roomRules)
+  unfolding problemVerdict
   in-turn v e =
-      let h : List Rule = demand (leb k maxHorizon) Horizon ∷ [] in
-      let r : List Rule = demand room Room ∷ [] in
-      ap judge (append-assoc (fileRules file ++ h) r (scheduleRules (taskOf file) k entries) ∙ append-assoc (fileRules file) h roomRules)
-      ∙ judge-append (fileRules file) horizonRules
-      ∙ ap (λ u. inTurn u (judge horizonRules)) (sym e)
+      ap judge (append-assoc (problemRules file k) (demand room Room ∷ []) (scheduleRules (taskOf file) k entries))
+      ∙ judge-append (problemRules file k) roomRules
+      ∙ ap (λ u. inTurn u (judge roomRules)) (sym e)
 
-  file-refuses : (v : Verdict) (why : Refusal) → v ≡ fileVerdict file → v ≡ Refused why → v ≡ inOrder
-  file-refuses v why e f = f ∙ sym (in-turn v e ∙ ap (λ u. inTurn u (judge horizonRules)) f)
+  problem-refuses : (v : Verdict) (why : Refusal) → v ≡ problemVerdict file k → v ≡ Refused why → v ≡ inOrder
+  problem-refuses v why e f = f ∙ sym (in-turn v e ∙ ap (λ u. inTurn u (judge roomRules)) f)
 
-  module _ (v : Verdict) (e : v ≡ fileVerdict file) (f : v ≡ Accepted) where
-    from-horizon : inOrder ≡ judge horizonRules
-    from-horizon = in-turn v e ∙ ap (λ u. inTurn u (judge horizonRules)) f
+  module _ (v : Verdict) (e : v ≡ problemVerdict file k) (f : v ≡ Accepted) where
+    from-room : inOrder ≡ judge roomRules
+    from-room = in-turn v e ∙ ap (λ u. inTurn u (judge roomRules)) f
 
-    horizon-refuses : maxHorizon < k → Refused Horizon ≡ inOrder
-    horizon-refuses l = sym (from-horizon ∙ judge-refused _ _ (lt-leb k maxHorizon l))
+    room-refuses : room ≡ false → Refused Room ≡ inOrder
+    room-refuses h = sym (from-room ∙ judge-refused _ _ h)
 
-    module _ (hk : k ≤ maxHorizon) where
-      from-room : inOrder ≡ judge roomRules
-      from-room = from-horizon ∙ judge-passed _ _ (le-leb k maxHorizon hk)
-
-      room-refuses : room ≡ false → Refused Room ≡ inOrder
-      room-refuses h = sym (from-room ∙ judge-refused _ _ h)
-
-      schedule-judges : room ≡ true → (w : Verdict) → w ≡ judge (scheduleRules (taskOf file) k entries) → w ≡ inOrder
-      schedule-judges h w ew = ew ∙ sym (from-room ∙ judge-passed _ _ h)
+    schedule-judges : room ≡ true → (w : Verdict) → w ≡ judge (scheduleRules (taskOf file) k entries) → w ≡ inOrder
+    schedule-judges h w ew = ew ∙ sym (from-room ∙ judge-passed _ _ h)
 
 -- ---- a schedule without rows
 
-module _ (file : List ℕ) (k : ℕ) (entries : List ℕ) (v : Verdict) (e : v ≡ fileVerdict file) where
-  pub checked-file : (why : Refusal) → v ≡ Refused why → v ≡ checkedVerdict file k entries
+module _ (file : List ℕ) (k : ℕ) (entries : List ℕ) (v : Verdict) (e : v ≡ problemVerdict file k) where
+  pub checked-problem : (why : Refusal) → v ≡ Refused why → v ≡ checkedVerdict file k entries
   unfolding checkedVerdict
-  checked-file why f = file-refuses file k entries (leb k (length entries)) v why e f
+  checked-problem why f = problem-refuses file k entries (leb k (length entries)) v why e f
 
   module _ (f : v ≡ Accepted) where
-    pub checked-horizon : maxHorizon < k → Refused Horizon ≡ checkedVerdict file k entries
+    pub checked-room : length entries < k → Refused Room ≡ checkedVerdict file k entries
     unfolding checkedVerdict
-    checked-horizon l = horizon-refuses file k entries (leb k (length entries)) v e f l
+    checked-room l = room-refuses file k entries (leb k (length entries)) v e f (lt-leb k (length entries) l)
 
-    module _ (hk : k ≤ maxHorizon) where
-      pub checked-room : length entries < k → Refused Room ≡ checkedVerdict file k entries
-      unfolding checkedVerdict
-      checked-room l = room-refuses file k entries (leb k (length entries)) v e f hk (lt-leb k (length entries) l)
-
-      pub checked-schedule : k ≤ length entries → (w : Verdict) → w ≡ judge (scheduleRules (taskOf file) k entries) → w ≡ checkedVerdict file k entries
-      unfolding checkedVerdict
-      checked-schedule l w ew = schedule-judges file k entries (leb k (length entries)) v e f hk (le-leb k (length entries) l) w ew
+    pub checked-schedule : k ≤ length entries → (w : Verdict) → w ≡ judge (scheduleRules (taskOf file) k entries) → w ≡ checkedVerdict file k entries
+    unfolding checkedVerdict
+    checked-schedule l w ew = schedule-judges file k entries (leb k (length entries)) v e f (le-leb k (length entries) l) w ew
 
 -- ---- the way back
 
@@ -135,15 +106,10 @@ module _ (file : List ℕ) (k : ℕ) (entries given truth : List ℕ) where
   unfolding backRows
   refused-by why e = (e, rw (← e))
 
-  pub file-wrong : (v : Verdict) (why : Refusal) → v ≡ fileVerdict file → v ≡ Refused why
+  pub problem-wrong : (v : Verdict) (why : Refusal) → v ≡ problemVerdict file k → v ≡ Refused why
       → (v ≡ verdict) × (lent given truth ≡ backRows file k entries (lent given truth))
   unfolding backVerdict
-  file-wrong v why e f = rw f (refused-by why (sym f ∙ file-refuses file k entries room v why e f))
-
-  pub horizon-wrong : (v : Verdict) → v ≡ fileVerdict file → v ≡ Accepted → maxHorizon < k
-      → (Refused Horizon ≡ verdict) × (lent given truth ≡ backRows file k entries (lent given truth))
-  unfolding backVerdict
-  horizon-wrong v e f l = refused-by Horizon (horizon-refuses file k entries room v e f l)
+  problem-wrong v why e f = rw f (refused-by why (sym f ∙ problem-refuses file k entries room v why e f))
 
   module _ (ok : fileVerdict file ≡ Accepted) (hk : k ≤ maxHorizon) (b : Bool)
       (eb : b ≡ fits (wordsFor (N (problemOf file k))) (length given) (length truth) k (length entries)) where
@@ -153,12 +119,12 @@ module _ (file : List ℕ) (k : ℕ) (entries given truth : List ℕ) where
 
     pub too-little : not b ≡ true → (Refused Room ≡ verdict) × (lent given truth ≡ backRows file k entries (lent given truth))
     unfolding backVerdict
-    too-little f = refused-by Room (room-refuses file k entries room (fileVerdict file) refl ok hk (is-room ∙ not-true b f))
+    too-little f = refused-by Room (room-refuses file k entries room (problemVerdict file k) refl (problem-accepted file k ok hk) (is-room ∙ not-true b f))
 
     module _ (fb : not b ≡ false) (v : Verdict) (ev : v ≡ judge (scheduleRules (taskOf file) k entries)) where
       judged : v ≡ verdict
       unfolding backVerdict
-      judged = schedule-judges file k entries room (fileVerdict file) refl ok hk (is-room ∙ not-false b fb) v ev
+      judged = schedule-judges file k entries room (problemVerdict file k) refl (problem-accepted file k ok hk) (is-room ∙ not-false b fb) v ev
 
       pub schedule-wrong : (why : Refusal) → v ≡ Refused why → (v ≡ verdict) × (lent given truth ≡ backRows file k entries (lent given truth))
       schedule-wrong why f = rw f (refused-by why (sym f ∙ judged))
@@ -207,9 +173,3 @@ module _ (words given truth k entries : ℕ) where
 
 pub can-be-carried : (T : Task) (k : ℕ) (entries : List ℕ) (v : Verdict) → v ≡ judge (scheduleRules T k entries) → v ≡ Accepted → CarriedOut T k entries
 can-be-carried T k entries v ev f = carried-out T k entries (sym ev ∙ f)
-
-pub file-right : (file : List ℕ) (v : Verdict) → v ≡ fileVerdict file → v ≡ Accepted → fileVerdict file ≡ Accepted
-file-right file v e f = sym e ∙ f
-
-pub now-indexed : (file index : List ℕ) (v : Verdict) → v ≡ fileVerdict file → v ≡ Accepted → index ≡ indexOf file → Indexed file index
-now-indexed file index v ev f ei = record { accepted = sym ev ∙ f; filled = ei }

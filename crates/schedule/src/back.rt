@@ -6,8 +6,7 @@ use rows::clear;
 use rows::words_for;
 use rules::Refusal;
 use rules::Verdict;
-use task::index::step_width;
-use task::index::values;
+use task::problem::count_variables;
 ghost use mathlib.Core.Path.{_≡_};
 ghost use mathlib.Core.Bool.{true};
 ghost use Prim.Native.Nat.{_≤_};
@@ -22,20 +21,12 @@ ghost use Rattle.rules.specs.Calls.{problemOf, backVerdict, backRows};
 ghost use Rattle.task.specs.Index.{Indexed};
 ghost use Rattle.schedule.specs.Written.{lent, fits};
 
-// N.
-fn highest_number(file: &[u8], index: &[usize], horizon: usize) -> usize
-    requires { ⌜ Indexed (now file) (now index) × (horizon ≤ maxHorizon) ⌝ }
-    ensures { λ r. ⌜ r ≡ N (problemOf (now (file .entry)) horizon) ⌝ }
-{
-    horizon * step_width(file, index) + values(file, index)
-}
-
 // The words that N bits need.
 fn needed_words(file: &[u8], index: &[usize], horizon: usize) -> usize
     requires { ⌜ Indexed (now file) (now index) × (horizon ≤ maxHorizon) ⌝ }
     ensures { λ r. ⌜ r ≡ wordsFor (N (problemOf (now (file .entry)) horizon)) ⌝ }
 {
-    words_for(highest_number(file, index, horizon))
+    words_for(count_variables(file, index, horizon))
 }
 
 // Enough is lent: words for both rows, and an entry for each step.
@@ -66,7 +57,7 @@ fn give_all(file: &[u8], index: &[usize], horizon: usize, row: &mut [u64])
     ensures { λ _. ⌜ now (row .exit) ≡ overRow (packed (replicate (N (problemOf (now (file .entry)) horizon)) true)) (now (row .entry)) ⌝ }
 {
     clear(row, needed_words(file, index, horizon));
-    set_all(row, highest_number(file, index, horizon));
+    set_all(row, count_variables(file, index, horizon));
 }
 
 // Exactly the model's true variables true.

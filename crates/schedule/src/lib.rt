@@ -7,24 +7,20 @@ use rules::Refusal;
 use rules::Verdict;
 use task::filling::fill_index;
 use task::index::INDEX_LENGTH;
+use task::problem::problem_verdict;
 ghost use mathlib.Core.Path.{_≡_};
 ghost use Rattle.rules.specs.Calls.{backVerdict, backRows};
 ghost use Rattle.schedule.specs.Checked.{checkedVerdict};
 ghost use Rattle.schedule.specs.Written.{lent};
 
-const MAX_HORIZON: usize = 64;
-
 // Whether a schedule is good, without rows.
 pub fn schedule_checked(file: &[u8], horizon: usize, entries: &[u32]) -> Verdict
     ensures { λ r. ⌜ r ≡ checkedVerdict (now (file .entry)) horizon (now (entries .entry)) ⌝ }
 {
-    let verdict = task::file::file_verdict(file);
-    let Verdict::Accepted = verdict else {
-        return verdict;
+    let problem = problem_verdict(file, horizon);
+    let Verdict::Accepted = problem else {
+        return problem;
     };
-    if MAX_HORIZON < horizon {
-        return Verdict::Refused(Refusal::Horizon);
-    }
     if entries.len() < horizon {
         return Verdict::Refused(Refusal::Room);
     }
@@ -44,13 +40,10 @@ pub fn way_back(
     ensures { λ r. ⌜ (r ≡ backVerdict (now (file .entry)) horizon (now (entries .entry)) (lent (now (given .entry)) (now (truth .entry))))
         × (lent (now (given .exit)) (now (truth .exit)) ≡ backRows (now (file .entry)) horizon (now (entries .entry)) (lent (now (given .entry)) (now (truth .entry)))) ⌝ }
 {
-    let verdict = task::file::file_verdict(file);
-    let Verdict::Accepted = verdict else {
-        return verdict;
+    let problem = problem_verdict(file, horizon);
+    let Verdict::Accepted = problem else {
+        return problem;
     };
-    if MAX_HORIZON < horizon {
-        return Verdict::Refused(Refusal::Horizon);
-    }
     let mut index = [0usize; INDEX_LENGTH];
     fill_index(file, &mut index);
     back::way_back_of(file, &index, horizon, entries, given, truth)

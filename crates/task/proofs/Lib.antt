@@ -2,4 +2,5 @@
 pub mod Rows
 pub mod Bytes
 pub mod Asking
+pub mod Stated
 pub mod OneAnswer

@@ -3,6 +3,7 @@
 use mathlib.Core.Path.{_≡_, sym, _∙_}
 use Prim.Native.Nat.{ℕ}
 use denote.Ref.{now}
+use Rattle.rules.specs.declared.Verdict.{Verdict}
 use Rattle.task.specs.declared.numbering.ValuePlace.{ValuePlace}
 use Rattle.task.specs.declared.numbering.ActionNumber.{ActionNumber}
 use Rattle.task.specs.declared.numbering.FormulaNumber.{FormulaNumber}
@@ -34,6 +35,8 @@ use Rattle.task.proofs.numbering.value_number.Reads as value-number
 use Rattle.task.proofs.numbering.action_number.Reads as action-number
 use Rattle.task.proofs.filling.fill_index.Reads as fill-index
 use Rattle.task.proofs.numbering.nth_action.Reads as nth-action
+use Rattle.task.proofs.problem.problem_verdict.Reads as problem-verdict
+use Rattle.task.proofs.problem.count_variables.Reads as count-variables
 
 same-place : (r s : ValuePlace) (x v : ℕ) → (r .0 ≡ x) × (r .1 ≡ v) → (s .0 ≡ x) × (s .1 ≡ v) → r ≡ s
 same-place r s x v p q = λ i. record { 0 = (p .0 ∙ sym (q .0)) i; 1 = (p .1 ∙ sym (q .1)) i }
@@ -125,3 +128,11 @@ one-action-number κs a r s x p q = same-number r s _ p q
 
 pub one-checked-number : (κs : _) (a : _) (r s : NumberRead) (x : _) → checked-number.Post κs a r x → checked-number.Post κs a s x → r ≡ s
 one-checked-number κs a r s x p q = p ∙ sym q
+
+-- ---- the problem at a horizon
+
+pub one-problem-verdict : (κs : _) (a : _) (r s : Verdict) (x : _) → problem-verdict.Post κs a r x → problem-verdict.Post κs a s x → r ≡ s
+one-problem-verdict κs a r s x p q = p ∙ sym q
+
+pub one-count-variables : (κs : _) (a : _) (r s : ℕ) (x : _) → count-variables.Post κs a r x → count-variables.Post κs a s x → r ≡ s
+one-count-variables κs a r s x p q = p ∙ sym q

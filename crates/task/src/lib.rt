@@ -8,3 +8,4 @@ pub mod asked;
 pub mod filling;
 pub mod index;
 pub mod numbering;
+pub mod problem;

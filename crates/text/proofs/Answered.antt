@@ -25,7 +25,7 @@ use Rattle.rules.proofs.Judging.{judge-nil, judge-refused, judge-passed, judge-
 use Rattle.task.specs.Index.{Indexed}
 use Rattle.digits.specs.Over.{over, Wrote}
 use Rattle.digits.proofs.Overs.{over-front, over-none}
-use Rattle.formula.proofs.Answered.{problem-right}
+use Rattle.task.proofs.Stated.{problem-right}
 use Rattle.parts.specs.Runs.{run, PutPart}
 use Rattle.parts.proofs.OneLine.{made-first, one-line, no-line}
 use Rattle.text.specs.declared.calls.TextAnswer.the-variants as text

@@ -2,7 +2,7 @@
 use crate::header::HEADER_ROOM;
 use crate::header::put_header;
 use crate::runs::put_run;
-use formula::calls::problem_verdict;
+use task::problem::problem_verdict;
 use formula::families::count_clauses;
 use parts::single::copy;
 use parts::single::put_one;

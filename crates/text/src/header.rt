@@ -2,7 +2,7 @@
 use digits::put;
 use digits::put_byte;
 use formula::families::count_clauses;
-use formula::families::count_variables;
+use task::problem::count_variables;
 use parts::single::copy;
 ghost use mathlib.Core.Path.{_≡_};
 ghost use mathlib.Core.List.{[], _∷_, _++_};

@@ -1,6 +1,6 @@
 -- `print_answer` meets its contract.
 -- Assumes nothing.
-use Rattle.formula.proofs.Answered.{file-accepted, indexed, horizon-right}
+use Rattle.task.proofs.Stated.{file-accepted, indexed, horizon-right}
 use Rattle.clauses.proofs.Prefix.{prefix-long, refusal-here}
 use borrow.Author.Needs.{needs}
 use Rattle.clauses.proofs.print_answer.Statement.{statement}

@@ -1,7 +1,8 @@
 -- `schedule_checked` meets its contract.
 -- Assumes nothing.
 use borrow.Author.Needs.{needs}
-use Rattle.schedule.proofs.BackLaws.{checked-file, checked-horizon, checked-room, checked-schedule, file-right, now-indexed}
+use Rattle.task.proofs.Stated.{file-accepted, indexed}
+use Rattle.schedule.proofs.BackLaws.{checked-problem, checked-room, checked-schedule}
 use Rattle.schedule.proofs.schedule_checked.Statement.{statement}
 use Rattle.schedule.proofs.schedule_checked.Tie as tie
 
@@ -12,11 +13,10 @@ schedule-checked-spec =
     (λ c κs. search needs)
     (λ c. search needs)
     (λ c. search needs)
-    (λ c. checked-file _ _ _ _ (c .before .before .file-verdict .ensures) _ (c .enum-told2 .given .1))
-    (λ c. search (needs, checked-horizon))
+    (λ c. search (needs, checked-problem))
     (λ c. search (needs, checked-room))
     (λ c. search needs)
-    (λ c κs. search (needs, file-right))
+    (λ c κs. (search (needs, file-accepted), search needs))
     (λ c. search needs)
-    (λ c κs. search (needs, now-indexed))
+    (λ c κs. (search (needs, indexed), search needs))
     (λ c. search (needs, checked-schedule)))

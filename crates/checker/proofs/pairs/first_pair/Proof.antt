@@ -1,6 +1,6 @@
 -- `first_pair` meets its contract.
 -- Assumes nothing.
-use Rattle.checker.proofs.FirstTwo.{none-set, second-fits, one-set, before-fits, number-fits, two-set}
+use Rattle.checker.proofs.FirstTwo.{few-set, second-counted, before-fits, number-fits, two-set}
 use borrow.Author.Needs.{needs}
 use Rattle.checker.proofs.pairs.first_pair.Statement.{statement}
 use Rattle.checker.proofs.pairs.first_pair.Tie as tie
@@ -11,16 +11,15 @@ first-pair-spec =
     (tie.spec
     (λ c κs. search needs)
     (λ c κs. search needs)
-    (λ c. search (needs, none-set))
-    (λ c. search needs)
-    (λ c. search needs)
-    (λ c. search needs)
-    (λ c. search needs)
-    (λ c. search needs)
+    (λ c. search (needs, few-set))
     (λ c κs. search needs)
-    (λ c. search (needs, second-fits))
-    (λ c κs. search needs)
-    (λ c. search (needs, one-set))
+    (λ c. search needs)
+    (λ c. search needs)
+    (λ c. search needs)
+    (λ c. search needs)
+    (λ c. search needs)
+    (λ c κs. search (needs, second-counted))
+    (λ c. search needs)
     (λ c. search needs)
     (λ c. search needs)
     (λ c. search needs)

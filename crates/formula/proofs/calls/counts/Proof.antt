@@ -1,7 +1,8 @@
 -- `calls::counts` meets its contract.
 -- Assumes nothing.
 use borrow.Author.Needs.{needs}
-use Rattle.formula.proofs.Answered.{counts-refused, file-accepted, indexed, horizon-right, counts-found}
+use Rattle.task.proofs.Stated.{file-accepted, indexed, horizon-right}
+use Rattle.formula.proofs.Answered.{counts-refused, counts-found}
 use Rattle.formula.proofs.calls.counts.Statement.{statement}
 use Rattle.formula.proofs.calls.counts.Tie as tie
 

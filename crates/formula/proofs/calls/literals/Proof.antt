@@ -1,7 +1,8 @@
 -- `calls::literals` meets its contract.
 -- Assumes nothing.
 use borrow.Author.Needs.{needs}
-use Rattle.formula.proofs.Answered.{file-accepted, indexed, horizon-right, problem-said, problem-left}
+use Rattle.task.proofs.Stated.{file-accepted, indexed, horizon-right}
+use Rattle.formula.proofs.Answered.{problem-said, problem-left}
 use Rattle.formula.proofs.calls.literals.Statement.{statement}
 use Rattle.formula.proofs.calls.literals.Tie as tie
 

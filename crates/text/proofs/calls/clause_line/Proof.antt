@@ -1,6 +1,6 @@
 -- `calls::clause_line` meets its contract.
 -- Assumes nothing.
-use Rattle.formula.proofs.Answered.{file-accepted, indexed, horizon-right}
+use Rattle.task.proofs.Stated.{file-accepted, indexed, horizon-right}
 use Rattle.text.proofs.Answered.{problem-said, problem-left}
 use borrow.Author.Needs.{needs}
 use Rattle.text.proofs.calls.clause_line.Statement.{statement}

@@ -1,6 +1,6 @@
 -- `calls::header` meets its contract.
 -- Assumes nothing.
-use Rattle.formula.proofs.Answered.{file-accepted, indexed, horizon-right}
+use Rattle.task.proofs.Stated.{file-accepted, indexed, horizon-right}
 use Rattle.text.proofs.Answered.{header-problem-said, header-problem-left}
 use borrow.Author.Needs.{needs}
 use Rattle.text.proofs.calls.header.Statement.{statement}

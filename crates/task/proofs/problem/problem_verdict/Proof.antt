@@ -1,9 +1,9 @@
--- `calls::problem_verdict` meets its contract.
+-- `problem_verdict` meets its contract.
 -- Assumes nothing.
 use borrow.Author.Needs.{needs}
-use Rattle.formula.proofs.Answered.{file-wrong, horizon-wrong, problem-right}
-use Rattle.formula.proofs.calls.problem_verdict.Statement.{statement}
-use Rattle.formula.proofs.calls.problem_verdict.Tie as tie
+use Rattle.task.proofs.Stated.{file-wrong, horizon-wrong, problem-right}
+use Rattle.task.proofs.problem.problem_verdict.Statement.{statement}
+use Rattle.task.proofs.problem.problem_verdict.Tie as tie
 
 pub problem-verdict-spec : {M : Type 1} → statement M
 problem-verdict-spec =
