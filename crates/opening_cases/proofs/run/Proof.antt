@@ -22,7 +22,7 @@ run-spec =
     (λ c κs. search needs)
     (λ c κs. search needs)
     (λ c κs. search needs)
-    (λ c. search (needs, length-take-le))
+    (λ c. search needs)
     (λ c κs. search needs)
     (λ c. search (needs, length-take-le))
     (λ c κs. search needs)
