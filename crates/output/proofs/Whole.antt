@@ -2,7 +2,7 @@
 -- Assumes nothing.
 use mathlib.Core.Path.{_≡_, refl, sym, ap, _∙_}
 use mathlib.Core.Logic.{⊎-elim}
-use mathlib.Core.Bool.{Bool, true, false, cond}
+use mathlib.Core.Bool.{Bool, true, cond}
 use mathlib.Core.List.{List, [], _∷_, _++_, foldl, foldl-append, append-assoc, append-nil}
 use Prim.Native.Nat.{ℕ, _+_, _≤_, _<_, min}
 use native.Mathlib.Omega.{arith}
@@ -15,8 +15,8 @@ use Rattle.rules.specs.Counting.{joined}
 use Rattle.rules.specs.Limits.{maxLine}
 use Rattle.rules.specs.Answers.{demand, judge, inTurn}
 use Rattle.rules.specs.Text.{lf}
-use Rattle.rules.specs.Families.{Literal, plus, minus}
-use Rattle.rules.specs.Rows.{Rows, store, storeAll}
+use Rattle.rules.specs.Families.{Literal}
+use Rattle.rules.specs.Rows.{Rows}
 use Rattle.rules.specs.Lines.{onto, pieces, kindOf, lineVerdict, phaseAfter, named, rowsFit, Progress, progress, readLine}
 use Rattle.rules.specs.Output.{withoutEmptyLast, linesOf, readOn, readLines, readOutput}
 use Rattle.rules.specs.declared.Refusal.{Refusal}
@@ -26,10 +26,10 @@ use Rattle.rules.specs.declared.Verdict.the-variants.{Accepted, Refused}
 use Rattle.rules.specs.declared.Reading.{Reading}
 use Rattle.rules.specs.declared.LineAnswer.{LineAnswer}
 use Rattle.rules.proofs.Bools.{either, below-or, and-left}
-use Rattle.rows.proofs.Bits.{length-with}
 use Rattle.output.specs.Line.{bothFit}
 use Rattle.output.specs.Feeding.{lineRoom, Fed, fedByte, feedByte, feedAll, roomFor, hasRoom, feedCall, finished, finish, finishCall}
 use Rattle.output.proofs.WordLaws.{pieces-cut}
+use Rattle.output.proofs.Kept.{all-keep}
 
 -- ---- pieces do not matter
 
@@ -208,26 +208,6 @@ whole reading rows line bytes h =
 
 -- ---- the calls: fed from the start in any pieces, with room for a line and for the rows
 
-store-given : (rows : Rows) (l : Literal) → length (store rows l .given) ≡ length (rows .given)
-unfolding store
-store-given rows (plus v) = length-with (rows .given) v true
-store-given rows (minus v) = length-with (rows .given) v true
-
-store-true : (rows : Rows) (l : Literal) → length (store rows l .isTrue) ≡ length (rows .isTrue)
-unfolding store
-store-true rows (plus v) = length-with (rows .isTrue) v true
-store-true rows (minus v) = length-with (rows .isTrue) v false
-
-all-given : (rows : Rows) (ls : List Literal) → length (storeAll rows ls .given) ≡ length (rows .given)
-unfolding storeAll
-all-given rows [] = refl
-all-given rows (l ∷ ls) = all-given (store rows l) ls ∙ store-given rows l
-
-all-true : (rows : Rows) (ls : List Literal) → length (storeAll rows ls .isTrue) ≡ length (rows .isTrue)
-unfolding storeAll
-all-true rows [] = refl
-all-true rows (l ∷ ls) = all-true (store rows l) ls ∙ store-true rows l
-
 abbrev roomAfter : Progress → (line : ℕ) → Bool
 roomAfter p line = roomFor (p .answer) (length (p .rows .given)) (length (p .rows .isTrue)) line
 
@@ -235,7 +215,7 @@ roomAfter p line = roomFor (p .answer) (length (p .rows .given)) (length (p .row
 room-kept : (v : Verdict) (reading next : Reading) (ls : List Literal) (rows : Rows) (line : ℕ) → next .highest ≡ reading .highest
     → roomAfter (record { answer = LineAnswer.Next reading; rows = rows }) line ≡ true → roomAfter (progress v next ls rows) line ≡ true
 unfolding roomFor
-room-kept Accepted reading next ls rows line e h = rw (e, all-given rows ls, all-true rows ls) h
+room-kept Accepted reading next ls rows line e h = rw (e, all-keep rows ls .given, all-keep rows ls .isTrue) h
 room-kept (Refused why) reading next ls rows line e h = and-left (leb lineRoom line) (bothFit (reading .highest) (length (rows .given)) (length (rows .isTrue))) h
 
 room-read : (reading : Reading) (rows : Rows) (bytes : List ℕ) (line : ℕ) → roomAfter (record { answer = LineAnswer.Next reading; rows = rows }) line ≡ true
