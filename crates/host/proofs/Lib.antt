@@ -2,3 +2,6 @@
 pub mod Crossing
 pub mod FoundLaws
 pub mod LeftLaws
+pub mod TextLaws
+pub mod Kept
+pub mod OneAnswer

@@ -6,3 +6,4 @@ pub mod formulas;
 pub mod readings;
 pub mod schedules;
 mod states;
+pub mod texts;
