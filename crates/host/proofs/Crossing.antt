@@ -1,9 +1,9 @@
 -- The ways out of the functions that hand an answer over.
 -- Assumes nothing.
-use mathlib.Core.Path.{_≡_, refl, sym, ap, _∙_}
+use mathlib.Core.Path.{_≡_, refl, ap, _∙_}
 use Prim.Native.Nat.{ℕ}
-use borrow.Author.Tests.{eq-eqb, ne-eqb}
-use Rattle.rules.specs.Answers.{Answer, answer, answerOf, answerTo, answerToLine}
+use borrow.Author.Tests.{ne-eqb}
+use Rattle.rules.specs.Answers.{answer, answerOf, answerTo, answerToLine}
 use Rattle.rules.specs.declared.Refusal.{Refusal}
 use Rattle.rules.specs.declared.Verdict.{Verdict}
 use Rattle.rules.specs.declared.Verdict.the-variants.{Accepted, Refused}

@@ -12,7 +12,6 @@ use denote.Ref.{RefT, now}
 use Rattle.rules.specs.Limits.{contentsRows, contentsBytes}
 use Rattle.rules.specs.Answers.{answer, answerOf, answerTo}
 use Rattle.rules.specs.File.{bodyStart, contentsVerdict}
-use Rattle.rules.specs.Problem.{Problem}
 use Rattle.rules.specs.Numbering.{N}
 use Rattle.rules.specs.Families.{C, clause}
 use Rattle.rules.specs.Calls.{problemOf, problemVerdict, clauseVerdict}

@@ -44,7 +44,8 @@ of-line highest reading e rows line =
 
 -- ---- bytes
 
-of-byte : (highest : ℕ) (a : LineAnswer) → Keeps highest a → (rows : Rows) (held : ℕ) (line : List ℕ) (b : ℕ) → Keeps highest (fedByte a rows held line b .progress .answer)
+of-byte : (highest : ℕ) (a : LineAnswer) → Keeps highest a → (rows : Rows) (held : ℕ) (line : List ℕ) (b : ℕ)
+    → Keeps highest (fedByte a rows held line b .progress .answer)
 of-byte highest (LineAnswer.Refused why) e rows held line b = refl
 of-byte highest (LineAnswer.Next reading) e rows held line b =
     ⊎-elim
@@ -89,3 +90,11 @@ pub next-state : (highest found : ℕ) (line : LineAnswer) (reading : Reading) �
 next-state highest found line reading k e =
     let same : reading .highest ≡ highest = rw e at k in
     rw e (ap₂ (λ h p. record { highest = h; phase = p }) (sym same) (back-again (reading .phase)))
+
+-- and what a host hands in with the next piece of an output is what the last piece left
+pub next-piece : (highest found : ℕ) (fed : Fed) (reading : Reading) → Keeps highest (fed .progress .answer) → fed .progress .answer ≡ LineAnswer.Next reading
+    → fedSoFar highest (phaseLeft (fed .progress .answer) found) (fed .held) (fed .progress .rows .given) (fed .progress .rows .isTrue) (fed .line) ≡ fed
+unfolding fedSoFar
+next-piece highest found fed reading k e =
+    ap (λ a. record { progress = record { answer = a; rows = fed .progress .rows }; held = fed .held; line = fed .line })
+    (ap LineAnswer.Next (next-state highest found (fed .progress .answer) reading k e) ∙ sym e)

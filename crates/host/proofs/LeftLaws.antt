@@ -1,18 +1,17 @@
 -- The ways out of the calls on a reading.
 -- Assumes nothing.
-use mathlib.Core.Path.{_≡_, refl, sym, ap, _∙_}
+use mathlib.Core.Path.{_≡_, refl, ap, _∙_}
 use mathlib.Core.List.{List}
 use Prim.Native.Nat.{ℕ}
 use Rattle.rules.specs.Answers.{answer, answerTo, answerToLine}
 use Rattle.rules.specs.Rows.{Rows}
 use Rattle.rules.specs.Lines.{Progress, readLine}
 use Rattle.rules.specs.Calls.{startReading, endVerdict, endEntries}
-use Rattle.rules.specs.declared.Refusal.{Refusal}
 use Rattle.rules.specs.declared.Verdict.{Verdict}
 use Rattle.rules.specs.declared.Phase.{Phase}
 use Rattle.rules.specs.declared.Reading.{Reading}
 use Rattle.rules.specs.declared.LineAnswer.{LineAnswer}
-use Rattle.output.specs.Line.{lent, leaves}
+use Rattle.output.specs.Line.{leaves}
 use Rattle.output.specs.Feeding.{feedLeaves, feedCall, finishCall}
 use Rattle.output.specs.declared.feeding.Feed.{Feed}
 use Rattle.host.specs.States.{phaseOf, readingOf}
@@ -51,7 +50,8 @@ pub bytes-left : (number detail phase found : ℕ) (fed : Feed) (given isTrue li
     → fedLeft number detail phase (fed .held) given isTrue line ≡ fedLeftBy (feedCall (fedSoFar highest found held g t l) bytes) found
 unfolding fedLeftBy
 bytes-left number detail phase found fed given isTrue line highest reading held g t l bytes a b s e =
-    let after : feedLeaves fed given isTrue line ≡ feedCall (fedSoFar highest found held g t l) bytes = e ∙ ap (λ f. feedCall f bytes) (so-far found highest reading s held g t l) in
+    let after : feedLeaves fed given isTrue line ≡ feedCall (fedSoFar highest found held g t l) bytes =
+    e ∙ ap (λ f. feedCall f bytes) (so-far found highest reading s held g t l) in
     ap (λ r. record { reading = r; held = fed .held; line = line }) (left-by number detail phase found (fed .answer) a b given isTrue _ refl)
     ∙ ap (λ f. fedLeftBy f found) after
 

@@ -52,7 +52,8 @@ pub extern "C" fn wawrolen_literals(
     detail: &mut usize,
 ) -> usize
     ensures { λ r. ⌜ answer r (now (detail .exit)) ≡ answerTo (clauseVerdict (now (file .entry)) horizon c (length (now (room .entry)))) ⌝ }
-    ensures { λ r. ⌜ now (count .exit) ≡ counted (clauseVerdict (now (file .entry)) horizon c (length (now (room .entry)))) (length (clause (problemOf (now (file .entry)) horizon) c)) ⌝ }
+    ensures { λ r. ⌜ now (count .exit)
+        ≡ counted (clauseVerdict (now (file .entry)) horizon c (length (now (room .entry)))) (length (clause (problemOf (now (file .entry)) horizon) c)) ⌝ }
     ensures { λ r. ⌜ now (room .exit) ≡ literalsAfter (now (file .entry)) horizon c (now (room .entry)) ⌝ }
 {
     match formula::calls::literals(file, horizon, c, room) {

@@ -30,7 +30,8 @@ pub extern "C" fn wawrolen_start_reading(
 ) -> usize
     ensures { λ r. ⌜ left r (now (detail .exit)) (now (phase .exit)) (now (given .exit)) (now (truth .exit))
         ≡ leftBy (startReading (now (file .entry)) horizon (lent (now (given .entry)) (now (truth .entry)))) (now (phase .entry)) ⌝ }
-    ensures { λ r. ⌜ now (highest .exit) ≡ highestLeft (startReading (now (file .entry)) horizon (lent (now (given .entry)) (now (truth .entry))) .answer) (now (highest .entry)) ⌝ }
+    ensures { λ r. ⌜ now (highest .exit)
+        ≡ highestLeft (startReading (now (file .entry)) horizon (lent (now (given .entry)) (now (truth .entry))) .answer) (now (highest .entry)) ⌝ }
 {
     let started = opening::start(file, horizon, given, truth);
     keep_highest(started, highest);
@@ -119,8 +120,10 @@ pub extern "C" fn wawrolen_end_reading(
     entries: &mut [u32],
     detail: &mut usize,
 ) -> usize
-    ensures { λ r. ⌜ answer r (now (detail .exit)) ≡ answerTo (endVerdict (now (file .entry)) horizon (phaseOf phase) (lent (now (given .entry)) (now (truth .entry))) (now (entries .entry))) ⌝ }
-    ensures { λ r. ⌜ now (entries .exit) ≡ endEntries (now (file .entry)) horizon (phaseOf phase) (lent (now (given .entry)) (now (truth .entry))) (now (entries .entry)) ⌝ }
+    ensures { λ r. ⌜ answer r (now (detail .exit))
+        ≡ answerTo (endVerdict (now (file .entry)) horizon (phaseOf phase) (lent (now (given .entry)) (now (truth .entry))) (now (entries .entry))) ⌝ }
+    ensures { λ r. ⌜ now (entries .exit)
+        ≡ endEntries (now (file .entry)) horizon (phaseOf phase) (lent (now (given .entry)) (now (truth .entry))) (now (entries .entry)) ⌝ }
 {
     // the end does not look at the highest variable of the state: N is the file's own
     let reading = Reading {

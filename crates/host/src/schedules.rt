@@ -29,8 +29,10 @@ pub extern "C" fn wawrolen_way_back(
     truth: &mut [u64],
     detail: &mut usize,
 ) -> usize
-    ensures { λ r. ⌜ answer r (now (detail .exit)) ≡ answerTo (backVerdict (now (file .entry)) horizon (now (entries .entry)) (lent (now (given .entry)) (now (truth .entry)))) ⌝ }
-    ensures { λ r. ⌜ lent (now (given .exit)) (now (truth .exit)) ≡ backRows (now (file .entry)) horizon (now (entries .entry)) (lent (now (given .entry)) (now (truth .entry))) ⌝ }
+    ensures { λ r. ⌜ answer r (now (detail .exit))
+        ≡ answerTo (backVerdict (now (file .entry)) horizon (now (entries .entry)) (lent (now (given .entry)) (now (truth .entry)))) ⌝ }
+    ensures { λ r. ⌜ lent (now (given .exit)) (now (truth .exit))
+        ≡ backRows (now (file .entry)) horizon (now (entries .entry)) (lent (now (given .entry)) (now (truth .entry))) ⌝ }
 {
     tell(
         schedule::way_back(file, horizon, entries, given, truth),

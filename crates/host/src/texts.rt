@@ -49,7 +49,8 @@ pub extern "C" fn wawrolen_header(
     detail: &mut usize,
 ) -> usize
     ensures { λ r. ⌜ answer r (now (detail .exit)) ≡ answerTo (headerVerdict (now (file .entry)) horizon (length (now (room .entry)))) ⌝ }
-    ensures { λ r. ⌜ now (bytes .exit) ≡ counted (headerVerdict (now (file .entry)) horizon (length (now (room .entry)))) (length (headerLine (problemOf (now (file .entry)) horizon))) ⌝ }
+    ensures { λ r. ⌜ now (bytes .exit)
+        ≡ counted (headerVerdict (now (file .entry)) horizon (length (now (room .entry)))) (length (headerLine (problemOf (now (file .entry)) horizon))) ⌝ }
     ensures { λ r. ⌜ now (room .exit) ≡ headerAfter (now (file .entry)) horizon (now (room .entry)) ⌝ }
 {
     tell_text(text::calls::header(file, horizon, room), bytes, detail)
@@ -66,7 +67,8 @@ pub extern "C" fn wawrolen_clause_line(
     detail: &mut usize,
 ) -> usize
     ensures { λ r. ⌜ answer r (now (detail .exit)) ≡ answerTo (clauseLineVerdict (now (file .entry)) horizon c (length (now (room .entry)))) ⌝ }
-    ensures { λ r. ⌜ now (bytes .exit) ≡ counted (clauseLineVerdict (now (file .entry)) horizon c (length (now (room .entry)))) (length (clauseLine (clause (problemOf (now (file .entry)) horizon) c))) ⌝ }
+    ensures { λ r. ⌜ now (bytes .exit)
+        ≡ counted (clauseLineVerdict (now (file .entry)) horizon c (length (now (room .entry)))) (length (clauseLine (clause (problemOf (now (file .entry)) horizon) c))) ⌝ }
     ensures { λ r. ⌜ now (room .exit) ≡ clauseLineAfter (now (file .entry)) horizon c (now (room .entry)) ⌝ }
 {
     tell_text(
@@ -88,8 +90,10 @@ pub extern "C" fn wawrolen_lines(
     detail: &mut usize,
 ) -> usize
     ensures { λ r. ⌜ answer r (now (detail .exit)) ≡ answerTo (clauseLineVerdict (now (file .entry)) horizon c (length (now (room .entry)))) ⌝ }
-    ensures { λ r. ⌜ now (lines .exit) ≡ counted (clauseLineVerdict (now (file .entry)) horizon c (length (now (room .entry)))) (length (linesFrom (now (file .entry)) horizon c (length (now (room .entry))))) ⌝ }
-    ensures { λ r. ⌜ now (bytes .exit) ≡ counted (clauseLineVerdict (now (file .entry)) horizon c (length (now (room .entry)))) (length (joined (linesFrom (now (file .entry)) horizon c (length (now (room .entry)))))) ⌝ }
+    ensures { λ r. ⌜ now (lines .exit)
+        ≡ counted (clauseLineVerdict (now (file .entry)) horizon c (length (now (room .entry)))) (length (linesFrom (now (file .entry)) horizon c (length (now (room .entry))))) ⌝ }
+    ensures { λ r. ⌜ now (bytes .exit)
+        ≡ counted (clauseLineVerdict (now (file .entry)) horizon c (length (now (room .entry)))) (length (joined (linesFrom (now (file .entry)) horizon c (length (now (room .entry)))))) ⌝ }
     ensures { λ r. ⌜ now (room .exit) ≡ linesAfter (now (file .entry)) horizon c (now (room .entry)) ⌝ }
 {
     let text = text::calls::lines(file, horizon, c, room);
