@@ -1,0 +1,29 @@
+-- `main` is safe and ends.
+-- Assumes nothing.
+use borrow.Author.Needs.{needs}
+use Rattle.model.proofs.Ways.{part-of}
+use Rattle.model.proofs.main.Statement.{statement}
+use Rattle.model.proofs.main.Tie as tie
+
+pub main-spec : {M : Type 1} → statement M
+main-spec =
+    tie.close
+    (tie.spec
+    (λ c. search needs)
+    (λ c κs. search needs)
+    (λ c. search needs)
+    (λ c. search needs)
+    (λ c κs. search needs)
+    (λ c. search needs)
+    (λ c. search needs)
+    (λ c. search needs)
+    (λ c. part-of _ _ (search needs))
+    (λ c. search needs)
+    (λ c. part-of _ _ (search needs))
+    (λ c. search needs)
+    (λ c. search needs)
+    (λ c κs. search needs)
+    (λ c. search needs)
+    (λ c. part-of _ _ (search needs))
+    (λ c κs. search needs)
+    (λ c. search needs))
