@@ -88,7 +88,7 @@ module _ (file : List ℕ) (k : ℕ) (e : problemVerdict file k ≡ Accepted) wh
   accepted-file : fileVerdict file ≡ Accepted
   accepted-file = inTurn-left _ _ both
 
-  accepted-horizon : k ≤ maxHorizon
+  pub accepted-horizon : k ≤ maxHorizon
   accepted-horizon = leb-true _ _ (judge-head _ [] (inTurn-right (fileVerdict file) _ both))
 
 -- ---- the words needed
@@ -133,7 +133,7 @@ begun-so first file lines g t g′ t′ g″ t″ line line″ k a r p s f e l =
 
 -- ---- the end
 
-verdicts : (file : List ℕ) (k : ℕ) (phase : Phase) (rows : Rows) (entries : List ℕ)
+pub verdicts : (file : List ℕ) (k : ℕ) (phase : Phase) (rows : Rows) (entries : List ℕ)
     → endVerdict file k phase rows entries
     ≡ inTurn (inTurn (problemVerdict file k) (judge (demand (rowsFit (N (problemOf file k)) rows && leb k (length entries)) Room ∷ []))) (outcome (problemOf file k) phase rows)
 unfolding endVerdict problemVerdict
