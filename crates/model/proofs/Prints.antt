@@ -2,14 +2,14 @@
 -- part has to hold the file that it announces, unless nothing follows it; each row has the words needed.
 -- Assumes nothing.
 use mathlib.Core.Path.{_≡_, refl, sym, ap, ap₂, _∙_}
-use mathlib.Core.Logic.{_⊎_, ⊎-elim}
+use mathlib.Core.Logic.{_⊎_, inl, inr, ⊎-elim}
 use mathlib.Core.Bool.{Bool, true, _&&_}
-use mathlib.Core.List.{List, [], _∷_, _++_, foldl, append-nil}
+use mathlib.Core.List.{List, [], _∷_, _++_, foldl, foldl-append, append-nil}
 use Prim.Native.Nat.{ℕ, _+_, _*_, _≤_, _<_}
 use native.Mathlib.Omega.{arith}
 use borrow.Author.Tests.{le-leb}
 use lib.Dec.{leb, lit<}
-use lib.ListN.{length, take, drop, replicate, length-set, length-drop, length-replicate, drop-of-length-le, List·getD-append}
+use lib.ListN.{length, take, drop, replicate, length-append, length-set, length-drop, length-replicate, drop-of-length-le, List·getD-append}
 use lib.Seq.{take-append-le, drop-append-le}
 use Rattle.rules.specs.Counting.{joined}
 use Rattle.rules.specs.Answers.{demand, judge, inTurn}
@@ -36,8 +36,10 @@ use Rattle.rules.specs.declared.LineAnswer.{LineAnswer}
 use Rattle.rules.proofs.Judging.{judge-append, judge-cons, judge-nil}
 use Rattle.output.specs.Line.{lent}
 use Rattle.output.specs.Feeding.{lineRoom, Fed, feedByte, feedAll, feedCall, finish, finishCall}
+use Rattle.digits.specs.Over.{over}
+use Rattle.digits.proofs.Overs.{over-front}
 use Rattle.output.proofs.Whole.{read-in-parts}
-use Rattle.model.specs.Parts.{headBytes, fileIn, linesIn, wordsBy, wordsNeeded, begun, endText, textAfter, lastText}
+use Rattle.model.specs.Parts.{headBytes, firstRoom, fileIn, linesIn, wordsBy, wordsNeeded, begun, FedSome, endText, textAfter, lastText, Ended, Answered}
 use Rattle.model.proofs.Ways.{verdicts, accepted-horizon}
 
 -- ---- a reading keeps the lengths of the rows
@@ -233,3 +235,39 @@ unfolding modelOutput wordsNeeded
 prints first parts g t line a b room h =
     by-verdict first parts g t line room (problemVerdict (fileIn first) (byte first 0)) refl a b
     ∙ sym (rw (same-byte first (joined parts) h 0 (lit< tt), same-size first (joined parts) h, same-file first (joined parts) h, same-lines first (joined parts) h))
+
+-- ---- the loop over the parts, and what `answer` leaves
+
+pub some-none : (fed : Fed) → FedSome fed fed
+some-none fed = record { parts = []; fed = refl }
+
+pub some-more : (before fed after : Fed) (bytes : List ℕ) → FedSome before fed → after ≡ feedCall fed bytes → FedSome before after
+some-more before fed after bytes s e =
+    record { parts = s .parts ++ (bytes ∷ []); fed = e ∙ ap (λ f. feedCall f bytes) (s .fed) ∙ sym (foldl-append feedCall before (s .parts) (bytes ∷ [])) }
+
+pub answered-short : (first g t line out now : List ℕ) (end : ℕ) (begin : Fed) → now ≡ over out 0 (lastText first (finishCall begin))
+    → end ≡ length (lastText first (finishCall begin)) → begin ≡ begun first (lent g t) line → length first < firstRoom
+    → length g ≡ wordsNeeded first → length t ≡ wordsNeeded first → lineRoom ≤ length line → Answered first out now end
+unfolding joined
+answered-short first g t line out now end begin e f start short a b room =
+    let text : lastText first (finishCall begin) ≡ modelOutput (first ++ []) =
+    ap (λ fed. lastText first (finishCall fed)) start ∙ prints first [] g t line a b room (inr refl) in
+    record { rest = []; all = λ h. refl; is = e ∙ ap (over out 0) text; behind = f ∙ ap length text }
+
+pub ended-some : (first out now : List ℕ) (end : ℕ) (before fed : Fed) → now ≡ over out 0 (lastText first (finishCall fed))
+    → end ≡ length (lastText first (finishCall fed)) → FedSome before fed → Ended first before out now end
+ended-some first out now end before fed e f s =
+    record { parts = s .parts; is = e ∙ ap (λ fed. over out 0 (lastText first (finishCall fed))) (s .fed); behind = f ∙ ap (λ fed. length (lastText first (finishCall fed))) (s .fed) }
+
+pub answered-long : (first g t line out now : List ℕ) (end : ℕ) (begin : Fed) → Ended first begin out now end → begin ≡ begun first (lent g t) line → firstRoom ≤ length first
+    → headBytes + word16 first 1 ≤ firstRoom → length g ≡ wordsNeeded first → length t ≡ wordsNeeded first → lineRoom ≤ length line → Answered first out now end
+answered-long first g t line out now end begin s start long announced a b room =
+    let text : lastText first (finishCall (foldl feedCall begin (s .parts))) ≡ modelOutput (first ++ joined (s .parts)) =
+    ap (λ fed. lastText first (finishCall (foldl feedCall fed (s .parts)))) start
+    ∙ prints first (s .parts) g t line a b room (inl (omega arith)) in
+    record { rest = joined (s .parts); all = λ h. absurd (omega arith); is = s .is ∙ ap (over out 0) text; behind = s .behind ∙ ap length text }
+
+pub answer-within : (first out now : List ℕ) (end : ℕ) → Answered first out now end → end ≤ length now
+answer-within first out now end s =
+    let text : List ℕ = modelOutput (first ++ s .rest) in
+    omega (arith, s .behind, ap length (s .is ∙ over-front out text), length-append text (drop (length text) out))

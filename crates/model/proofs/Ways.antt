@@ -8,7 +8,7 @@ use native.Mathlib.Omega.{arith}
 use borrow.Author.Tests.{leb-true}
 use mathlib.Core.Bool.{_&&_}
 use lib.Dec.{leb}
-use lib.ListN.{length, take, drop, replicate, length-append, length-take, length-drop, drop-of-length-le, List·getD-eq-default}
+use lib.ListN.{length, take, drop, replicate, length-take, length-drop, drop-of-length-le, List·getD-eq-default}
 use lib.Seq.{take-all, take-append-seam, length-take-le}
 use Rattle.rules.specs.Answers.{demand, judge, inTurn}
 use Rattle.rules.specs.Limits.{maxHorizon, maxN}
@@ -41,7 +41,6 @@ use Rattle.output.specs.Line.{lent, leaves}
 use Rattle.output.specs.declared.feeding.Feed.{Feed}
 use Rattle.output.specs.Feeding.{Fed, feedLeaves, feedCall, finishCall}
 use Rattle.digits.specs.Over.{over}
-use Rattle.digits.proofs.Overs.{over-front}
 use Rattle.printing.specs.Printed.{endedRoom}
 use Rattle.model.specs.Parts.{headBytes, mostWords, textRoom, fileIn, linesIn, wordsBy, wordsNeeded, begun, endText, textAfter, lastText}
 
@@ -226,10 +225,11 @@ module _ (first g t : List ℕ) (fed : Fed) (a : LineAnswer) (e : leaves a g t �
 
 -- ---- in main
 
--- what is written over the front of a room that keeps its length is within it
-pub text-within : (room x now : List ℕ) (end : ℕ) → now ≡ over room 0 x → length now ≡ length room → end ≡ length x → end ≤ length room
-text-within room x now end e l f =
-    omega (arith, ap length (e ∙ over-front room x), length-append x (drop (length x) room))
-
 pub part-of : (n : ℕ) (l : List ℕ) → n ≤ length l → n ≡ length (take n l)
 part-of n l h = sym (length-take-le n l h)
+
+pub part-few : (n m : ℕ) (l : List ℕ) → length l ≡ m → length (take n l) ≤ m
+part-few n m l e = omega (arith, length-take n l)
+
+pub part-is : (n m : ℕ) (l : List ℕ) → n ≡ m → n ≤ length l → length (take n l) ≡ m
+part-is n m l e h = length-take-le n l h ∙ e

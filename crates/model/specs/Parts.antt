@@ -1,9 +1,10 @@
 -- The input in parts: what the first of them holds, the reading that begins with it, and what is printed once the last is fed.
 -- Assumes nothing.
-use Prim.Native.Nat.{ℕ, _+_, _*_}
-use mathlib.Core.List.{List}
-use lib.ListN.{take, drop, replicate}
-use Rattle.rules.specs.Limits.{maxHorizon, maxN}
+use Prim.Native.Nat.{ℕ, _+_, _-_, _*_, _<_}
+use mathlib.Core.Path.{_≡_}
+use mathlib.Core.List.{List, [], _++_, foldl}
+use lib.ListN.{length, take, drop, replicate}
+use Rattle.rules.specs.Limits.{maxHorizon, maxN, byteValues}
 use Rattle.rules.specs.File.{byte, word16}
 use Rattle.rules.specs.Text.{refusalLine}
 use Rattle.rules.specs.Problem.{Problem}
@@ -13,17 +14,22 @@ use Rattle.rules.specs.Truth.{modelIn}
 use Rattle.rules.specs.Readings.{scheduleOf}
 use Rattle.rules.specs.Lines.{Progress}
 use Rattle.rules.specs.Calls.{problemOf, problemVerdict, startReading, endVerdict}
-use Rattle.rules.specs.Programs.{printed, scheduleText}
+use Rattle.rules.specs.Programs.{printed, scheduleText, modelOutput}
 use Rattle.rules.specs.declared.Verdict.{Verdict}
 use Rattle.rules.specs.declared.Verdict.the-variants.{Accepted, Refused}
 use Rattle.rules.specs.declared.Phase.{Phase}
 use Rattle.rules.specs.declared.LineAnswer.{LineAnswer}
-use Rattle.output.specs.Feeding.{Fed, feedCall}
+use Rattle.output.specs.Feeding.{Fed, feedCall, finishCall}
+use Rattle.digits.specs.Over.{over}
 use Rattle.printing.specs.Printed.{endedRoom}
 
 -- the horizon's byte and the two of the file's length
 abbrev pub headBytes : ℕ
 headBytes = 3
+
+-- the longest file that two bytes announce stands in the first part
+abbrev pub firstRoom : ℕ
+firstRoom = headBytes + (byteValues * byteValues - 1)
 
 -- the words of a row for the most variables that a formula has
 abbrev pub mostWords : ℕ
@@ -53,6 +59,11 @@ wordsNeeded first = wordsBy (problemVerdict (fileIn first) (byte first 0)) (prob
 unfoldable pub begun : List ℕ → Rows → (line : List ℕ) → Fed
 begun first rows line = feedCall (record { progress = startReading (fileIn first) (byte first 0) rows; held = 0; line = line }) (linesIn first)
 
+-- some parts were fed
+pub record FedSome (before after : Fed) : Type 0 where
+  pub parts : List (List ℕ)
+  pub fed : after ≡ foldl feedCall before parts
+
 -- ---- the end
 
 unfoldable pub endText : List ℕ → ℕ → Phase → Rows → List ℕ
@@ -64,3 +75,16 @@ textAfter first (LineAnswer.Refused why) rows = refusalLine why
 
 unfoldable pub lastText : List ℕ → Progress → List ℕ
 lastText first progress = textAfter first (progress .answer) (progress .rows)
+
+-- some parts were fed, and then the end
+pub record Ended (first : List ℕ) (before : Fed) (room now : List ℕ) (end : ℕ) : Type 0 where
+  pub parts : List (List ℕ)
+  pub is : now ≡ over room 0 (lastText first (finishCall (foldl feedCall before parts)))
+  pub behind : end ≡ length (lastText first (finishCall (foldl feedCall before parts)))
+
+-- the output of an input that begins with the first part, and is that part where it is not full, is written over the front of room
+pub record Answered (first room now : List ℕ) (end : ℕ) : Type 0 where
+  pub rest : List ℕ
+  pub all : length first < firstRoom → rest ≡ []
+  pub is : now ≡ over room 0 (modelOutput (first ++ rest))
+  pub behind : end ≡ length (modelOutput (first ++ rest))

@@ -5,18 +5,56 @@ mod parts;
 use libc::STDIN_FILENO;
 use libc::STDOUT_FILENO;
 use output::feeding;
+use output::feeding::Feed;
 use output::feeding::LINE_ROOM;
 use parts::FIRST_ROOM;
 use parts::ROW_WORDS;
 use parts::TEXT_ROOM;
+ghost use mathlib.Core.Path.{_≡_};
 ghost use Prim.Native.Nat.{_≤_};
 ghost use lib.ListN.{length};
-ghost use Rattle.model.specs.Parts.{textRoom};
+ghost use Rattle.output.specs.Line.{lent};
+ghost use Rattle.output.specs.Feeding.{lineRoom, feedLeaves};
+ghost use Rattle.model.specs.Parts.{firstRoom, textRoom, wordsNeeded, FedSome, Ended, Answered};
 
 // More parts than any input has.
 const MOST_PARTS: usize = 18446744073709551615;
 
-// The parts behind the first are read and fed, and what is to be printed is written; how many bytes that are.
+// The parts behind the first are read and fed.
+fn take_parts(state: Feed, given: &mut [u64], truth: &mut [u64], line: &mut [u8]) -> Feed
+    ensures { λ r. ⌜ FedSome (feedLeaves state (now (given .entry)) (now (truth .entry)) (now (line .entry))) (feedLeaves r (now (given .exit)) (now (truth .exit)) (now (line .exit))) ⌝ }
+{
+    let mut part = io::large_buffer();
+    let mut fed = state;
+    let mut left = MOST_PARTS;
+    while 0 < left {
+        let n = io::read_full(STDIN_FILENO, &mut part);
+        if n == 0 {
+            return fed;
+        }
+        fed = feeding::take_bytes(fed, given, truth, line, &part[..n]);
+        left -= 1;
+    }
+    fed
+}
+
+// The same, and then the end: what is to be printed is written over the front of `out`.
+fn answer_parts(
+    first: &[u8],
+    begun: Feed,
+    given: &mut [u64],
+    truth: &mut [u64],
+    line: &mut [u8],
+    out: &mut [u8],
+) -> usize
+    requires { ⌜ textRoom ≤ length (now out) ⌝ }
+    ensures { λ r. ⌜ Ended (now (first .entry)) (feedLeaves begun (now (given .entry)) (now (truth .entry)) (now (line .entry))) (now (out .entry)) (now (out .exit)) r ⌝ }
+{
+    let fed = take_parts(begun, given, truth, line);
+    parts::finish(first, fed, given, truth, line, out)
+}
+
+// What is to be printed is written over the front of `out`; how many bytes that are. Parts are read only behind a first part that is full.
 fn answer(
     first: &[u8],
     given: &mut [u64],
@@ -24,21 +62,15 @@ fn answer(
     line: &mut [u8],
     out: &mut [u8],
 ) -> usize
-    requires { ⌜ textRoom ≤ length (now out) ⌝ }
-    ensures { λ r. ⌜ r ≤ length (now (out .entry)) ⌝ }
+    requires { ⌜ (length (now first) ≤ firstRoom) × (length (now given) ≡ wordsNeeded (now first)) × (length (now truth) ≡ wordsNeeded (now first)) ⌝ }
+    requires { ⌜ (lineRoom ≤ length (now line)) × (textRoom ≤ length (now out)) ⌝ }
+    ensures { λ r. ⌜ Answered (now (first .entry)) (now (out .entry)) (now (out .exit)) r ⌝ }
 {
-    let mut part = io::large_buffer();
-    let mut state = parts::begin(first, given, truth, line);
-    let mut left = MOST_PARTS;
-    while 0 < left {
-        let n = io::read_full(STDIN_FILENO, &mut part);
-        if n == 0 {
-            break;
-        }
-        state = feeding::take_bytes(state, given, truth, line, &part[..n]);
-        left -= 1;
+    let begun = parts::begin(first, given, truth, line);
+    if first.len() < FIRST_ROOM {
+        return parts::finish(first, begun, given, truth, line, out);
     }
-    parts::finish(first, state, given, truth, line, out)
+    answer_parts(first, begun, given, truth, line, out)
 }
 
 fn main() {

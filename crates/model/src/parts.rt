@@ -14,7 +14,7 @@ ghost use Rattle.rules.specs.File.{byte, word16};
 ghost use Rattle.output.specs.Line.{lent};
 ghost use Rattle.output.specs.Feeding.{feedLeaves, finishCall};
 ghost use Rattle.digits.specs.Over.{over};
-ghost use Rattle.model.specs.Parts.{headBytes, mostWords, textRoom, fileIn, linesIn, wordsNeeded, begun, endText, lastText};
+ghost use Rattle.model.specs.Parts.{headBytes, firstRoom, mostWords, textRoom, fileIn, linesIn, wordsNeeded, begun, endText, lastText};
 
 // The bytes before the file: the horizon and the file's length.
 const HEAD_BYTES: usize = 3;
@@ -54,6 +54,7 @@ fn smaller(a: usize, b: usize) -> usize
 // Where the file ends in the first part.
 fn file_end(first: &[u8]) -> usize
     ensures { λ r. ⌜ r ≡ min (headBytes + word16 (now (first .entry)) 1) (length (now (first .entry))) ⌝ }
+    ensures announced { λ r. ⌜ headBytes + word16 (now (first .entry)) 1 ≤ firstRoom ⌝ }
 {
     let size = byte_at(first, 1) + BYTE_VALUES * byte_at(first, 2);
     smaller(HEAD_BYTES + size, first.len())
@@ -71,6 +72,7 @@ fn file_in(first: &[u8]) -> &[u8]
 // What the first part has of the solver lines.
 fn lines_in(first: &[u8]) -> &[u8]
     ensures { λ r. ⌜ now r ≡ linesIn (now (first .entry)) ⌝ }
+    ensures announced { λ r. ⌜ headBytes + word16 (now (first .entry)) 1 ≤ firstRoom ⌝ }
 {
     let end = file_end(first);
     &first[end..]
@@ -92,6 +94,7 @@ pub fn words_needed(first: &[u8]) -> usize
 // The reading starts, and the lines of the first part are fed.
 pub fn begin(first: &[u8], given: &mut [u64], truth: &mut [u64], line: &mut [u8]) -> Feed
     ensures { λ r. ⌜ feedLeaves r (now (given .exit)) (now (truth .exit)) (now (line .exit)) ≡ begun (now (first .entry)) (lent (now (given .entry)) (now (truth .entry))) (now (line .entry)) ⌝ }
+    ensures announced { λ r. ⌜ headBytes + word16 (now (first .entry)) 1 ≤ firstRoom ⌝ }
 {
     let answer = opening::start(file_in(first), byte_at(first, 0), given, truth);
     feeding::take_bytes(
