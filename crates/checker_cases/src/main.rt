@@ -2,7 +2,6 @@
 // then the four entries that were lent: all 9 before the call.
 use rules::Phase;
 use rules::Reading;
-use rules::Refusal;
 use rules::Verdict;
 
 const ALL: u64 = 18446744073709551615;
@@ -19,34 +18,14 @@ fn print_entry(entry: u32) {
     print(entry as u64);
 }
 
-fn print_two(number: u64, detail: usize) {
-    print(number);
-    print(detail as u64);
-}
-
-fn print_another() {
-    io::write_all(1, b"another ");
-}
-
-fn print_refusal(why: Refusal) {
-    match why {
-        Refusal::FileLength => print_two(1, 0),
-        Refusal::Horizon => print_two(8, 0),
-        Refusal::Room => print_two(10, 0),
-        Refusal::Unfinished => print_two(15, 0),
-        Refusal::NotGiven(v) => print_two(16, v),
-        Refusal::FalseClause(c) => print_two(17, c),
-        Refusal::Unsatisfiable => print_two(18, 0),
-        Refusal::Unknown => print_two(19, 0),
-        _ => print_another(),
-    }
-}
-
 fn print_verdict(verdict: Verdict) {
-    match verdict {
-        Verdict::Accepted => print_two(0, 0),
-        Verdict::Refused(why) => print_refusal(why),
-    }
+    let Verdict::Refused(why) = verdict else {
+        print(0);
+        print(0);
+        return;
+    };
+    print(refusals::number_of(why) as u64);
+    print(refusals::detail_of(why) as u64);
 }
 
 fn finish(file: &[u8], horizon: usize, phase: Phase, given: u64, truth: u64) {

@@ -136,15 +136,7 @@ fn print_literal(literal: i32) {
 
 fn print_refusal(why: Refusal) {
     io::write_all(1, b"refused ");
-    match why {
-        Refusal::FileLength => io::print_decimal(1, 1),
-        Refusal::ContentsRow(_) => io::print_decimal(1, 2),
-        Refusal::Horizon => io::print_decimal(1, 8),
-        Refusal::ClauseNumber => io::print_decimal(1, 9),
-        Refusal::Room => io::print_decimal(1, 10),
-        _ => io::write_all(1, b"otherwise"),
-    }
-    ;
+    io::print_decimal(1, refusals::number_of(why) as u64);
 }
 
 fn print_words(words: &[i32]) {

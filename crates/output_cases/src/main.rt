@@ -2,7 +2,8 @@
 //
 // A line "! N G T" begins anew: N variables, no status, G and T the first words of the rows of given and of true variables, the others 0.
 // A line "? N K" reads what follows it, up to the LF before the next such line, as a whole output of N variables, fed in pieces of K bytes.
-// Any other line is read as a line of solver output, by the reading state that the lines before it left; a refused line leaves it.
+// Any other line is read as a line of solver output, by the reading state that the lines before it left; a refused line leaves it. Where
+// it begins with "~" the line is what stands behind, with an LF for each other "~".
 // An answer is "next" and how far the reading is, or "refused", number and detail; then the first words of both rows.
 use libc::STDOUT_FILENO;
 use output::feeding;
@@ -10,67 +11,14 @@ use output::feeding::LINE_ROOM;
 use rules::LineAnswer;
 use rules::Phase;
 use rules::Reading;
-use rules::Refusal;
 ghost use Prim.Native.Nat.{_≤_, _<_};
 ghost use lib.ListN.{length};
 
 const ROW_WORDS: usize = 32;
 
+const MARK: u8 = b'~';
+
 // ---- printing
-
-fn number_of(why: Refusal) -> u64 {
-    match why {
-        Refusal::FileLength => 1,
-        Refusal::ContentsRow(_) => 2,
-        Refusal::BodyLength => 3,
-        Refusal::DomainSize(_) => 4,
-        Refusal::StartValue(_) => 5,
-        Refusal::GoalPair(_) => 6,
-        Refusal::ActionAtFault(_) => 7,
-        Refusal::Horizon => 8,
-        Refusal::ClauseNumber => 9,
-        Refusal::Room => 10,
-        Refusal::Grammar(_) => 11,
-        Refusal::OutOfPlace(_) => 12,
-        Refusal::OverN(_) => 13,
-        Refusal::GivenBefore(_) => 14,
-        Refusal::Unfinished => 15,
-        Refusal::NotGiven(_) => 16,
-        Refusal::FalseClause(_) => 17,
-        Refusal::Unsatisfiable => 18,
-        Refusal::Unknown => 19,
-        Refusal::EntryOverA(_) => 20,
-        Refusal::DoesNotApply(_) => 21,
-        Refusal::GoalUnmet(_) => 22,
-    }
-}
-
-fn detail_of(why: Refusal) -> usize {
-    match why {
-        Refusal::FileLength => 0,
-        Refusal::ContentsRow(r) => r,
-        Refusal::BodyLength => 0,
-        Refusal::DomainSize(x) => x,
-        Refusal::StartValue(x) => x,
-        Refusal::GoalPair(i) => i,
-        Refusal::ActionAtFault(a) => a,
-        Refusal::Horizon => 0,
-        Refusal::ClauseNumber => 0,
-        Refusal::Room => 0,
-        Refusal::Grammar(i) => i,
-        Refusal::OutOfPlace(i) => i,
-        Refusal::OverN(i) => i,
-        Refusal::GivenBefore(i) => i,
-        Refusal::Unfinished => 0,
-        Refusal::NotGiven(v) => v,
-        Refusal::FalseClause(c) => c,
-        Refusal::Unsatisfiable => 0,
-        Refusal::Unknown => 0,
-        Refusal::EntryOverA(t) => t,
-        Refusal::DoesNotApply(t) => t,
-        Refusal::GoalUnmet(i) => i,
-    }
-}
 
 fn print(text: &[u8]) {
     io::write_all(STDOUT_FILENO, text);
@@ -106,8 +54,8 @@ fn print_answer(answer: LineAnswer, given: &[u64], truth: &[u64]) {
         }
         LineAnswer::Refused(why) => {
             print(b"refused");
-            print_number(number_of(why));
-            print_number(detail_of(why) as u64);
+            print_number(refusals::number_of(why) as u64);
+            print_number(refusals::detail_of(why) as u64);
         }
     }
     print_number(first_word(given));
@@ -291,6 +239,46 @@ fn run_line(reading: Reading, given: &mut [u64], truth: &mut [u64], line: &[u8])
     next
 }
 
+fn unmarked(b: u8) -> u8 {
+    if b == MARK {
+        return b'\n';
+    }
+    b
+}
+
+// A text with an LF for each mark, as far as there is room; how many bytes it has.
+fn with_lfs(text: &[u8], line: &mut [u8]) -> usize
+    ensures { λ r. ⌜ r ≤ length (now (line .exit)) ⌝ }
+{
+    let mut i = 0;
+    while i < text.len() {
+        if line.len() <= i {
+            return i;
+        }
+        line[i] = unmarked(text[i]);
+        i += 1;
+    }
+    i
+}
+
+// A line as it stands, or what a marked one stands for.
+fn run_case(
+    reading: Reading,
+    given: &mut [u64],
+    truth: &mut [u64],
+    line: &mut [u8],
+    text: &[u8],
+) -> Reading {
+    if text.len() == 0 {
+        return run_line(reading, given, truth, text);
+    }
+    if text[0] != MARK {
+        return run_line(reading, given, truth, text);
+    }
+    let many = with_lfs(&text[1..], line);
+    run_line(reading, given, truth, &line[..many])
+}
+
 fn run(input: &[u8], given: &mut [u64], truth: &mut [u64], line: &mut [u8]) {
     let mut reading = Reading {
         highest: 0,
@@ -304,7 +292,7 @@ fn run(input: &[u8], given: &mut [u64], truth: &mut [u64], line: &mut [u8]) {
             reading = begun.reading;
             at = begun.end + 1;
         } else {
-            reading = run_line(reading, given, truth, &input[at..end]);
+            reading = run_case(reading, given, truth, line, &input[at..end]);
             at = end + 1;
         }
     }

@@ -1,7 +1,6 @@
 // Schedules for the folder example, judged, and turned into rows. A line has the horizon and the entries, the verdict (0 0 is acceptance),
 // and then, for a way back, its verdict and both rows as they are left: words that are not written stay 7.
 use libc::STDOUT_FILENO;
-use rules::Refusal;
 use rules::Verdict;
 ghost use Prim.Native.Nat.{_≤_};
 
@@ -9,60 +8,6 @@ const ROW_WORDS: usize = 8;
 
 // One more than the highest entry that the folder example knows.
 const ENTRIES: u32 = 4;
-
-fn number_of(why: Refusal) -> u64 {
-    match why {
-        Refusal::FileLength => 1,
-        Refusal::ContentsRow(_) => 2,
-        Refusal::BodyLength => 3,
-        Refusal::DomainSize(_) => 4,
-        Refusal::StartValue(_) => 5,
-        Refusal::GoalPair(_) => 6,
-        Refusal::ActionAtFault(_) => 7,
-        Refusal::Horizon => 8,
-        Refusal::ClauseNumber => 9,
-        Refusal::Room => 10,
-        Refusal::Grammar(_) => 11,
-        Refusal::OutOfPlace(_) => 12,
-        Refusal::OverN(_) => 13,
-        Refusal::GivenBefore(_) => 14,
-        Refusal::Unfinished => 15,
-        Refusal::NotGiven(_) => 16,
-        Refusal::FalseClause(_) => 17,
-        Refusal::Unsatisfiable => 18,
-        Refusal::Unknown => 19,
-        Refusal::EntryOverA(_) => 20,
-        Refusal::DoesNotApply(_) => 21,
-        Refusal::GoalUnmet(_) => 22,
-    }
-}
-
-fn detail_of(why: Refusal) -> usize {
-    match why {
-        Refusal::FileLength => 0,
-        Refusal::ContentsRow(r) => r,
-        Refusal::BodyLength => 0,
-        Refusal::DomainSize(x) => x,
-        Refusal::StartValue(x) => x,
-        Refusal::GoalPair(i) => i,
-        Refusal::ActionAtFault(a) => a,
-        Refusal::Horizon => 0,
-        Refusal::ClauseNumber => 0,
-        Refusal::Room => 0,
-        Refusal::Grammar(i) => i,
-        Refusal::OutOfPlace(i) => i,
-        Refusal::OverN(i) => i,
-        Refusal::GivenBefore(i) => i,
-        Refusal::Unfinished => 0,
-        Refusal::NotGiven(v) => v,
-        Refusal::FalseClause(c) => c,
-        Refusal::Unsatisfiable => 0,
-        Refusal::Unknown => 0,
-        Refusal::EntryOverA(t) => t,
-        Refusal::DoesNotApply(t) => t,
-        Refusal::GoalUnmet(i) => i,
-    }
-}
 
 fn print(text: &[u8]) {
     io::write_all(STDOUT_FILENO, text);
@@ -80,8 +25,8 @@ fn print_verdict(verdict: Verdict) {
         print_number(0);
         return;
     };
-    print_number(number_of(why));
-    print_number(detail_of(why) as u64);
+    print_number(refusals::number_of(why) as u64);
+    print_number(refusals::detail_of(why) as u64);
 }
 
 fn print_row(row: &[u64]) {

@@ -2,7 +2,6 @@
 // answers for each: the name; what refusals 1 and 2 say; what 1 to 7 say; the lengths of the bodies 0 to 5; and of an accepted file n, S, A
 // and the goal pairs, the start values with their formula numbers, the goal, and of each of the first actions its number, its preconditions
 // and its effects.
-use rules::Refusal;
 use rules::Verdict;
 use task::index::INDEX_LENGTH;
 use task::numbering::ActionNumber;
@@ -34,30 +33,6 @@ fn print(text: &[u8], n: usize) {
 
 // ---- answers
 
-fn number(why: Refusal) -> usize {
-    match why {
-        Refusal::FileLength => 1,
-        Refusal::ContentsRow(_) => 2,
-        Refusal::BodyLength => 3,
-        Refusal::DomainSize(_) => 4,
-        Refusal::StartValue(_) => 5,
-        Refusal::GoalPair(_) => 6,
-        Refusal::ActionAtFault(_) => 7,
-        _ => 99,
-    }
-}
-
-fn detail(why: Refusal) -> usize {
-    match why {
-        Refusal::ContentsRow(row) => row,
-        Refusal::DomainSize(x) => x,
-        Refusal::StartValue(x) => x,
-        Refusal::GoalPair(i) => i,
-        Refusal::ActionAtFault(a) => a,
-        _ => 0,
-    }
-}
-
 fn print_verdict(text: &[u8], verdict: Verdict) {
     match verdict {
         Verdict::Accepted => {
@@ -65,8 +40,8 @@ fn print_verdict(text: &[u8], verdict: Verdict) {
             print(b" ", 0);
         }
         Verdict::Refused(why) => {
-            print(text, number(why));
-            print(b" ", detail(why));
+            print(text, refusals::number_of(why));
+            print(b" ", refusals::detail_of(why));
         }
     }
 }

@@ -2,8 +2,8 @@
 -- Assumes nothing.
 use borrow.Author.Needs.{needs}
 use lib.ListN.{List·getD-eq-default}
-use Rattle.walk.proofs.byte_at.Statement.{statement}
-use Rattle.walk.proofs.byte_at.Tie as tie
+use Rattle.bytes.proofs.byte_at.Statement.{statement}
+use Rattle.bytes.proofs.byte_at.Tie as tie
 
 pub byte-at-spec : {M : Type 1} → statement M
 byte-at-spec =
