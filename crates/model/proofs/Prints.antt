@@ -9,7 +9,7 @@ use Prim.Native.Nat.{ℕ, _+_, _*_, _≤_, _<_}
 use native.Mathlib.Omega.{arith}
 use borrow.Author.Tests.{le-leb}
 use lib.Dec.{leb, lit<}
-use lib.ListN.{length, take, drop, replicate, length-append, length-set, length-drop, length-replicate, drop-of-length-le, List·getD-append}
+use lib.ListN.{length, take, drop, replicate, length-append, length-drop, length-replicate, drop-of-length-le, List·getD-append}
 use lib.Seq.{take-append-le, drop-append-le}
 use Rattle.rules.specs.Counting.{joined}
 use Rattle.rules.specs.Answers.{demand, judge, inTurn}
@@ -18,8 +18,8 @@ use Rattle.rules.specs.File.{byte, word16}
 use Rattle.rules.specs.Text.{refusalLine}
 use Rattle.rules.specs.Problem.{Problem}
 use Rattle.rules.specs.Numbering.{N}
-use Rattle.rules.specs.Families.{Literal, plus, minus}
-use Rattle.rules.specs.Rows.{Rows, wordsFor, withVariable, store, storeAll, overRow}
+use Rattle.rules.specs.Families.{Literal}
+use Rattle.rules.specs.Rows.{Rows, wordsFor, overRow}
 use Rattle.rules.specs.Truth.{modelIn}
 use Rattle.rules.specs.Readings.{scheduleOf}
 use Rattle.rules.specs.Lines.{kindOf, lineVerdict, phaseAfter, named, Progress, rowsFit, progress, readLine}
@@ -34,38 +34,19 @@ use Rattle.rules.specs.declared.Phase.{Phase}
 use Rattle.rules.specs.declared.Reading.{Reading}
 use Rattle.rules.specs.declared.LineAnswer.{LineAnswer}
 use Rattle.rules.proofs.Judging.{judge-append, judge-cons, judge-nil}
-use Rattle.output.specs.Line.{lent}
-use Rattle.output.specs.Feeding.{lineRoom, Fed, feedByte, feedAll, feedCall, finish, finishCall}
+use Rattle.rows.specs.Lent.{lent}
+use Rattle.output.specs.Feeding.{lineRoom, Fed, feedByte, feedAll, roomFor, hasRoom, feedCall, finish, finishCall}
 use Rattle.digits.specs.Over.{over}
 use Rattle.digits.proofs.Overs.{over-front}
+use Rattle.output.proofs.Kept.{Kept, kept-same, kept-on, all-keep}
 use Rattle.output.proofs.Whole.{read-in-parts}
 use Rattle.model.specs.Parts.{headBytes, firstRoom, fileIn, linesIn, wordsBy, wordsNeeded, begun, FedSome, endText, textAfter, lastText, Ended, Answered}
 use Rattle.model.proofs.Ways.{verdicts, accepted-horizon}
 
 -- ---- a reading keeps the lengths of the rows
 
-record Kept (after rows : Rows) : Type 0 where
-  given : length (after .given) ≡ length (rows .given)
-  isTrue : length (after .isTrue) ≡ length (rows .isTrue)
-
-kept-same : (rows : Rows) → Kept rows rows
-kept-same rows = record { given = refl; isTrue = refl }
-
-kept-on : (a b c : Rows) → Kept a b → Kept b c → Kept a c
-kept-on a b c h k = record { given = h .given ∙ k .given; isTrue = h .isTrue ∙ k .isTrue }
-
-store-keeps : (rows : Rows) (l : Literal) → Kept (store rows l) rows
-unfolding store withVariable
-store-keeps rows (plus v) = record { given = length-set (rows .given) _ _; isTrue = length-set (rows .isTrue) _ _ }
-store-keeps rows (minus v) = record { given = length-set (rows .given) _ _; isTrue = length-set (rows .isTrue) _ _ }
-
-all-keep : (ls : List Literal) (rows : Rows) → Kept (storeAll rows ls) rows
-unfolding storeAll
-all-keep [] rows = kept-same rows
-all-keep (l ∷ ls) rows = kept-on (storeAll (store rows l) ls) (store rows l) rows (all-keep ls (store rows l)) (store-keeps rows l)
-
 progress-keeps : (v : Verdict) (next : Reading) (ls : List Literal) (rows : Rows) → Kept (progress v next ls rows .rows) rows
-progress-keeps Accepted next ls rows = all-keep ls rows
+progress-keeps Accepted next ls rows = all-keep rows ls
 progress-keeps (Refused why) next ls rows = kept-same rows
 
 on-keeps : (a : LineAnswer) (rows : Rows) (line : List ℕ) → Kept (readOn a rows line .rows) rows
@@ -92,6 +73,10 @@ module _ (why : Refusal) (rows : Rows) (line : List ℕ) (room : lineRoom ≤ le
   abbrev stopped : Fed
   stopped = record { progress = record { answer = LineAnswer.Refused why; rows = rows }; held = 0; line = line }
 
+  room-stays : hasRoom stopped ≡ true
+  unfolding hasRoom roomFor
+  room-stays = le-leb lineRoom (length line) room
+
   bytes-stay : (bytes : List ℕ) → feedAll stopped bytes ≡ stopped
   unfolding feedAll feedByte
   bytes-stay [] = refl
@@ -99,7 +84,7 @@ module _ (why : Refusal) (rows : Rows) (line : List ℕ) (room : lineRoom ≤ le
 
   call-stays : (bytes : List ℕ) → feedCall stopped bytes ≡ stopped
   unfolding feedCall
-  call-stays bytes = rw (le-leb lineRoom (length line) room) (bytes-stay bytes)
+  call-stays bytes = rw room-stays (bytes-stay bytes)
 
   calls-stay : (parts : List (List ℕ)) → foldl feedCall stopped parts ≡ stopped
   calls-stay [] = refl
@@ -107,7 +92,7 @@ module _ (why : Refusal) (rows : Rows) (line : List ℕ) (room : lineRoom ≤ le
 
   end-stays : _≡_ {A = Progress} (finishCall stopped) (record { answer = LineAnswer.Refused why; rows = rows })
   unfolding finishCall finish
-  end-stays = rw (le-leb lineRoom (length line) room)
+  end-stays = rw room-stays
 
 -- ---- the input and its first part
 
@@ -223,7 +208,7 @@ module _ (first : List ℕ) (parts : List (List ℕ)) (g t line : List ℕ) (roo
       ∙ ap (λ rows. record { answer = LineAnswer.Next (firstReading P); rows = rows }) (cleared-fresh P g t a b)) in
       let read : Progress = readOutput (firstReading P) (freshRows P) (linesIn first ++ joined parts) in
       let fed : finishCall (foldl feedCall (begun first (lent g t) line) parts) ≡ read =
-      ap (λ fed. finishCall (foldl feedCall fed parts)) start ∙ read-in-parts (firstReading P) (freshRows P) line (linesIn first ∷ parts) room in
+      ap (λ fed. finishCall (foldl feedCall fed parts)) start ∙ read-in-parts (firstReading P) (freshRows P) line (linesIn first ∷ parts) room (fresh-fit P (freshRows P) (kept-same (freshRows P))) in
       ap (lastText first) fed
       ∙ text-same first (read .answer) (read .rows) e (fresh-fit P (read .rows) (output-keeps (firstReading P) (freshRows P) (linesIn first ++ joined parts)))
 

@@ -8,7 +8,7 @@ use native.Mathlib.Omega.{arith}
 use borrow.Author.Tests.{leb-true}
 use mathlib.Core.Bool.{_&&_}
 use lib.Dec.{leb}
-use lib.ListN.{length, take, drop, replicate, length-take, length-drop, drop-of-length-le, List·getD-eq-default}
+use lib.ListN.{length, take, drop, replicate, length-take, length-drop, drop-of-length-le}
 use lib.Seq.{take-all, take-append-seam, length-take-le}
 use Rattle.rules.specs.Answers.{demand, judge, inTurn}
 use Rattle.rules.specs.Limits.{maxHorizon, maxN}
@@ -37,7 +37,8 @@ use Rattle.rules.proofs.Judging.{judge-head, judge-append, inTurn-left, inTurn-
 use Rattle.formula.specs.Said.{countsBy, countsAnswer}
 use Rattle.formula.specs.declared.calls.CountsAnswer.{CountsAnswer}
 use Rattle.formula.specs.declared.calls.CountsAnswer.the-variants as counts
-use Rattle.output.specs.Line.{lent, leaves}
+use Rattle.rows.specs.Lent.{lent}
+use Rattle.output.specs.Line.{leaves}
 use Rattle.output.specs.declared.feeding.Feed.{Feed}
 use Rattle.output.specs.Feeding.{Fed, feedLeaves, feedCall, finishCall}
 use Rattle.digits.specs.Over.{over}
@@ -45,9 +46,6 @@ use Rattle.printing.specs.Printed.{endedRoom}
 use Rattle.model.specs.Parts.{headBytes, mostWords, textRoom, fileIn, linesIn, wordsBy, wordsNeeded, begun, endText, textAfter, lastText}
 
 -- ---- the first part
-
-pub byte-missing : (s : List ℕ) (i : ℕ) → length s ≤ i → 0 ≡ byte s i
-byte-missing s i h = sym (List·getD-eq-default s 0 h)
 
 take-least : (m : ℕ) (l : List ℕ) → take (min m (length l)) l ≡ take m l
 take-least m l =

@@ -13,7 +13,6 @@ use parts::TEXT_ROOM;
 ghost use mathlib.Core.Path.{_≡_};
 ghost use Prim.Native.Nat.{_≤_};
 ghost use lib.ListN.{length};
-ghost use Rattle.output.specs.Line.{lent};
 ghost use Rattle.output.specs.Feeding.{lineRoom, feedLeaves};
 ghost use Rattle.model.specs.Parts.{firstRoom, textRoom, wordsNeeded, FedSome, Ended, Answered};
 

@@ -1,5 +1,6 @@
 // The input in parts. The first part has the horizon, the file's length, the file and the first of the solver lines, unless the input ends in it;
 // each other part goes on with the lines.
+use bytes::number_at;
 use formula::calls::CountsAnswer;
 use output::feeding;
 use output::feeding::Feed;
@@ -7,11 +8,10 @@ use rules::LineAnswer;
 use rules::Reading;
 use rules::Verdict;
 ghost use mathlib.Core.Path.{_≡_};
-ghost use Prim.Native.Nat.{_+_, _≤_, _<_, min};
+ghost use Prim.Native.Nat.{_+_, _≤_, min};
 ghost use lib.ListN.{length};
-ghost use Rattle.rules.specs.Limits.{byteValues};
-ghost use Rattle.rules.specs.File.{byte, word16};
-ghost use Rattle.output.specs.Line.{lent};
+ghost use Rattle.rules.specs.File.{word16};
+ghost use Rattle.rows.specs.Lent.{lent};
 ghost use Rattle.output.specs.Feeding.{feedLeaves, finishCall};
 ghost use Rattle.digits.specs.Over.{over};
 ghost use Rattle.model.specs.Parts.{headBytes, firstRoom, mostWords, textRoom, fileIn, linesIn, wordsNeeded, begun, endText, lastText};
@@ -32,16 +32,6 @@ const BYTE_VALUES: usize = 256;
 
 const MAX_HORIZON: usize = 64;
 
-// The byte at a place; a missing one is 0.
-fn byte_at(s: &[u8], i: usize) -> usize
-    ensures { λ r. ⌜ (r ≡ byte (now (s .entry)) i) × (r < byteValues) ⌝ }
-{
-    if i < s.len() {
-        return reader::contents::byte_at(s, i);
-    }
-    0
-}
-
 fn smaller(a: usize, b: usize) -> usize
     ensures { λ r. ⌜ r ≡ min a b ⌝ }
 {
@@ -56,7 +46,7 @@ fn file_end(first: &[u8]) -> usize
     ensures { λ r. ⌜ r ≡ min (headBytes + word16 (now (first .entry)) 1) (length (now (first .entry))) ⌝ }
     ensures announced { λ r. ⌜ headBytes + word16 (now (first .entry)) 1 ≤ firstRoom ⌝ }
 {
-    let size = byte_at(first, 1) + BYTE_VALUES * byte_at(first, 2);
+    let size = number_at(first, 1) + BYTE_VALUES * number_at(first, 2);
     smaller(HEAD_BYTES + size, first.len())
 }
 
@@ -82,7 +72,7 @@ fn lines_in(first: &[u8]) -> &[u8]
 pub fn words_needed(first: &[u8]) -> usize
     ensures { λ r. ⌜ (r ≡ wordsNeeded (now (first .entry))) × (r ≤ mostWords) ⌝ }
 {
-    match formula::calls::counts(file_in(first), byte_at(first, 0)) {
+    match formula::calls::counts(file_in(first), number_at(first, 0)) {
         CountsAnswer::Refused(_) => 0,
         CountsAnswer::Found {
             variables,
@@ -96,7 +86,7 @@ pub fn begin(first: &[u8], given: &mut [u64], truth: &mut [u64], line: &mut [u8]
     ensures { λ r. ⌜ feedLeaves r (now (given .exit)) (now (truth .exit)) (now (line .exit)) ≡ begun (now (first .entry)) (lent (now (given .entry)) (now (truth .entry))) (now (line .entry)) ⌝ }
     ensures announced { λ r. ⌜ headBytes + word16 (now (first .entry)) 1 ≤ firstRoom ⌝ }
 {
-    let answer = opening::start(file_in(first), byte_at(first, 0), given, truth);
+    let answer = opening::start(file_in(first), number_at(first, 0), given, truth);
     feeding::take_bytes(
         Feed { answer, held: 0 },
         given,
@@ -143,7 +133,7 @@ pub fn finish(
         LineAnswer::Refused(why) => printing::refusal_line(out, why),
         LineAnswer::Next(reading) => end_text(
             file_in(first),
-            byte_at(first, 0),
+            number_at(first, 0),
             reading,
             given,
             truth,
