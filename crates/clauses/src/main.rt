@@ -1,0 +1,86 @@
+// The clause program: a horizon byte, then a task file, on standard input; the formula's text, or one line `refused N D`, on standard output.
+// All that it does here is to move bytes: `text` and `printing` promise which.
+use formula::calls::problem_verdict;
+use formula::families::count_clauses;
+use libc::STDIN_FILENO;
+use libc::STDOUT_FILENO;
+use printing::refusal_line;
+use reader::contents::byte_at;
+use reader::limits::MAX_FILE;
+use rules::Verdict;
+use task::filling::fill_index;
+use task::index::INDEX_LENGTH;
+use text::calls::TextAnswer;
+use text::calls::header_indexed;
+use text::calls::lines_indexed;
+ghost use Prim.Native.Nat.{_≤_};
+ghost use lib.ListN.{length};
+ghost use Rattle.rules.specs.Limits.{maxHorizon};
+ghost use Rattle.task.specs.Index.{Indexed};
+ghost use Rattle.printing.specs.Printed.{refusalRoom};
+
+// The horizon byte, the longest file, and one byte more, by which a file that is too long shows.
+const INPUT_ROOM: usize = 1 + MAX_FILE + 1;
+
+// Lines are made and printed by so many bytes.
+const TEXT_ROOM: usize = 262144;
+
+// All lines, as many at a time as fit.
+fn print_lines(file: &[u8], index: &[usize], horizon: usize, out: &mut [u8])
+    requires { ⌜ Indexed (now file) (now index) × (horizon ≤ maxHorizon) ⌝ }
+{
+    let all = count_clauses(file, index, horizon);
+    let mut c = 0;
+    while c < all {
+        let TextAnswer::Written { lines, bytes } = lines_indexed(file, index, horizon, c, out)
+        else {
+            return;
+        };
+        io::write_all(STDOUT_FILENO, &out[..bytes]);
+        c += lines;
+    }
+}
+
+// The header and the lines behind it.
+fn print_formula(file: &[u8], index: &[usize], horizon: usize, out: &mut [u8])
+    requires { ⌜ Indexed (now file) (now index) × (horizon ≤ maxHorizon) ⌝ }
+{
+    let TextAnswer::Written { lines: _, bytes } = header_indexed(file, index, horizon, out) else {
+        return;
+    };
+    io::write_all(STDOUT_FILENO, &out[..bytes]);
+    print_lines(file, index, horizon, out);
+}
+
+// The text of a file at a horizon, or the line of a refusal.
+fn print_answer(file: &[u8], horizon: usize, out: &mut [u8])
+    requires { ⌜ refusalRoom ≤ length (now out) ⌝ }
+{
+    let verdict = problem_verdict(file, horizon);
+    if let Verdict::Refused(why) = verdict {
+        let bytes = refusal_line(out, why);
+        io::write_all(STDOUT_FILENO, &out[..bytes]);
+        return;
+    }
+    let mut index = [0usize; INDEX_LENGTH];
+    fill_index(file, &mut index);
+    print_formula(file, &index, horizon, out);
+}
+
+// The horizon is the first byte of the input, the file the others; a missing horizon is 0.
+fn print_for(input: &[u8], out: &mut [u8])
+    requires { ⌜ refusalRoom ≤ length (now out) ⌝ }
+{
+    if input.len() == 0 {
+        print_answer(input, 0, out);
+        return;
+    }
+    print_answer(&input[1..], byte_at(input, 0), out);
+}
+
+fn main() {
+    let mut input = [0u8; INPUT_ROOM];
+    let n = io::read_full(STDIN_FILENO, &mut input);
+    let mut out = [0u8; TEXT_ROOM];
+    print_for(&input[..n], &mut out);
+}

@@ -1,0 +1,4 @@
+-- What the proofs of this crate's functions share.
+pub mod Writes
+pub mod ByPlace
+pub mod Supported

@@ -1,0 +1,2 @@
+-- What the proofs of this crate's functions share.
+pub mod OneLine

@@ -1,0 +1,2 @@
+// Parts of a run of lines in lent room. Each function here is for an accepted file with its index.
+pub mod single;
