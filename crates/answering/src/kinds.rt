@@ -14,26 +14,30 @@ pub enum Kind {
     End,
     WayBack,
     Walk,
-    // None of these, or a whole program.
-    Other,
 }
 
-pub fn kind_of(number: usize) -> Kind {
+// What a number names: one of these calls, or none of them, as a whole program.
+pub enum Named {
+    Call(Kind),
+    Nothing,
+}
+
+pub fn kind_of(number: usize) -> Named {
     match number {
-        1 => Kind::Judge,
-        2 => Kind::Body,
-        3 => Kind::Counts,
-        4 => Kind::Clause,
-        5 => Kind::HeaderText,
-        6 => Kind::ClauseText,
-        7 => Kind::ManyLines,
-        8 => Kind::Start,
-        9 => Kind::Line,
-        10 => Kind::FoldLines,
-        11 => Kind::Output,
-        12 => Kind::End,
-        13 => Kind::WayBack,
-        14 => Kind::Walk,
-        _ => Kind::Other,
+        1 => Named::Call(Kind::Judge),
+        2 => Named::Call(Kind::Body),
+        3 => Named::Call(Kind::Counts),
+        4 => Named::Call(Kind::Clause),
+        5 => Named::Call(Kind::HeaderText),
+        6 => Named::Call(Kind::ClauseText),
+        7 => Named::Call(Kind::ManyLines),
+        8 => Named::Call(Kind::Start),
+        9 => Named::Call(Kind::Line),
+        10 => Named::Call(Kind::FoldLines),
+        11 => Named::Call(Kind::Output),
+        12 => Named::Call(Kind::End),
+        13 => Named::Call(Kind::WayBack),
+        14 => Named::Call(Kind::Walk),
+        _ => Named::Nothing,
     }
 }

@@ -7,8 +7,10 @@ mod kinds;
 mod readings;
 mod replies;
 mod stream;
+mod texts;
 
 use kinds::Kind;
+use kinds::Named;
 use libc::STDERR_FILENO;
 use output::feeding::LINE_ROOM;
 use replies::Reply;
@@ -90,7 +92,12 @@ fn read_call(kind: Kind) -> Next {
 // The next case's numbers; the stream may end before its kind.
 fn read_next() -> Next {
     match stream::read_number() {
-        Number::Is(number) => read_call(kinds::kind_of(number)),
+        Number::Is(number) => {
+            let Named::Call(kind) = kinds::kind_of(number) else {
+                return Next::Broken;
+            };
+            read_call(kind)
+        }
         Number::CutAfter(bytes) => {
             if bytes == 0 {
                 return Next::End;
@@ -105,6 +112,7 @@ fn reply(
     call: Call,
     file: &[u8],
     text: &[u8],
+    room: &mut [u8],
     literals: &mut [i32],
     given: &mut [u64],
     truth: &mut [u64],
@@ -120,6 +128,9 @@ fn reply(
         Kind::Body => files::body(file, asked),
         Kind::Counts => files::counts(file, horizon),
         Kind::Clause => files::literals(file, horizon, asked, literals),
+        Kind::HeaderText => texts::header(file, horizon, room),
+        Kind::ClauseText => texts::clause(file, horizon, asked, room),
+        Kind::ManyLines => texts::lines(file, horizon, asked, room),
         Kind::Start => readings::start(file, horizon, given, truth),
         Kind::Line => readings::line(reading, given, truth, text),
         Kind::FoldLines => readings::fold(reading, given, truth, text),
@@ -134,10 +145,6 @@ fn reply(
         )),
         Kind::WayBack => replies::judged(schedule::way_back(file, horizon, entries, given, truth)),
         Kind::Walk => replies::judged(schedule::schedule_checked(file, horizon, entries)),
-        Kind::HeaderText => replies::counted(0, 0),
-        Kind::ClauseText => replies::counted(0, 0),
-        Kind::ManyLines => replies::counted(0, 0),
-        Kind::Other => replies::counted(0, 0),
     }
 }
 
@@ -176,7 +183,17 @@ fn answer(
     line: &mut [u8],
     raw: &mut [u8],
 ) -> bool {
-    let reply = reply(call, file, text, literals, given, truth, entries, line);
+    let reply = reply(
+        call,
+        file,
+        text,
+        room,
+        literals,
+        given,
+        truth,
+        entries,
+        line,
+    );
     if !write_reply(reply) {
         return complain_writing();
     }
