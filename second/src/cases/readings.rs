@@ -84,6 +84,9 @@ impl Maker {
 
     pub fn fill_output(&mut self, case: &mut Case) {
         const SECOND_STATUS_ONCE_IN: usize = 12;
+        if case.kind == Kind::Output {
+            case.asked = self.piece_bytes();
+        }
         let subject = self.subject();
         match subject.model() {
             Some(model) if self.random.coin() => {
@@ -99,6 +102,15 @@ impl Maker {
                 case.text = loose_output(&mut self.random, status, case.highest);
             }
         }
+    }
+
+    /// How many bytes of an output are fed at a time; 0 is all at once.
+    fn piece_bytes(&mut self) -> u64 {
+        const FEW: usize = 100;
+        const WHOLE_LINE: u64 = LONGEST_LINE as u64;
+        let few = self.random.between(2, FEW) as u64;
+        let wide = self.wide();
+        self.random.pick(&[0, 1, few, few, WHOLE_LINE, WHOLE_LINE + 1, wide])
     }
 
     pub fn fill_end(&mut self, case: &mut Case) {
