@@ -13,10 +13,7 @@ use Rattle.rules.specs.Calls.{problemOf}
 use Rattle.rules.specs.declared.Refusal.the-variants.{Room}
 use Rattle.rules.specs.declared.Verdict.{Verdict}
 use Rattle.rules.specs.declared.Phase.{Phase}
-
--- two lent rows
-abbrev pub lent : (given isTrue : List ℕ) → Rows
-lent given isTrue = record { given = given; isTrue = isTrue }
+pub use Rattle.rows.specs.Lent.{lent}
 
 -- room for the rows and for the entries, then what the reading came to
 unfoldable pub endWith : List ℕ → ℕ → Phase → Rows → (room : ℕ) → Verdict

@@ -56,7 +56,7 @@ word-fits (b ∷ x) high most h l =
 
 -- ---- numbers
 
-decimal-bytes : (m : ℕ) → every isByte (decimal m) ≡ true
+pub decimal-bytes : (m : ℕ) → every isByte (decimal m) ≡ true
 decimal-bytes m = decimal-every isByte (λ j h. lt-ltb (digit0 + j) byteValues (omega arith)) m
 
 -- seven digits and a byte above them fit

@@ -111,7 +111,7 @@ module _ (file : List ℕ) (k s q : ℕ) where
       let h : s < 1 = rw e at hs in
       let none : s * n Tk ≡ 0 = let z : s ≡ 0 = omega arith in rw z (omega arith) in
       let l : q < n Tk = rw e at hq in
-      rw e (record { inside = l; is = sym (clause1 P _ q l (omega arith)) })
+      rw e (record { inside = l; is = sym (clause1 P _ q l (omega arith)); number = omega arith })
 
   pub goal-placed : (f : ℕ) → f ≡ 1 → s < stepsOf k f → q < widthOf Tk f → PlacedIn file k f s q (Goal q)
   unfolding PlacedIn numberIn problemOf stepsOf widthOf
@@ -119,14 +119,14 @@ module _ (file : List ℕ) (k s q : ℕ) where
       let h : s < 1 = rw e at hs in
       let none : s * length (Tk .goal) ≡ 0 = let z : s ≡ 0 = omega arith in rw z (omega arith) in
       let l : q < length (Tk .goal) = rw e at hq in
-      rw e (record { inside = l; is = sym (clause2 P _ q l (omega arith)) })
+      rw e (record { inside = l; is = sym (clause2 P _ q l (omega arith)); number = omega arith })
 
   pub all-values-placed : (f : ℕ) → f ≡ 2 → s < stepsOf k f → q < widthOf Tk f → PlacedIn file k f s q (AllValues s q)
   unfolding PlacedIn numberIn problemOf stepsOf widthOf
   all-values-placed f e hs hq =
       let h : s < suc k = rw e at hs in
       let l : q < n Tk = rw e at hq in
-      rw e (record { inside = (h, l); is = sym (clause3 P _ s q h l refl) })
+      rw e (record { inside = (h, l); is = sym (clause3 P _ s q h l refl); number = refl })
 
   -- the pair of values q of step s
   module _ (x before m v w : ℕ) (i : InPart (n Tk) (λ x. pairsBelow (d Tk x)) q x) (eb : before ≡ valuePairsBefore Tk x) where
@@ -145,6 +145,7 @@ module _ (file : List ℕ) (k s q : ℕ) where
         record {
           inside = (hs, i .below, p′ .rising, p′ .below);
           is = sym (clause4 P _ s x (q - before) v w hs (i .below) p′ (omega (arith, i .begun)));
+          number = omega (arith, i .begun, p′ .is);
         }
 
   module _ (a before : ℕ) (i : InPart (A Tk) (λ a. length (action Tk a .preconditions)) q a) (eb : before ≡ preconditionsBefore Tk a) where
@@ -159,6 +160,7 @@ module _ (file : List ℕ) (k s q : ℕ) where
         record {
           inside = (hs, i .below, l);
           is = sym (clause5 P _ s a (q - before) hs (i .below) l (omega (arith, i .begun)));
+          number = omega (arith, i .begun);
         }
 
   module _ (a before : ℕ) (i : InPart (A Tk) (λ a. length (action Tk a .effects)) q a) (eb : before ≡ effectsBefore Tk a) where
@@ -173,6 +175,7 @@ module _ (file : List ℕ) (k s q : ℕ) where
         record {
           inside = (hs, i .below, l);
           is = sym (clause6 P _ s a (q - before) hs (i .below) l (omega (arith, i .begun)));
+          number = omega (arith, i .begun);
         }
 
   module _ (x before : ℕ) (i : InPart (n Tk) (d Tk) q x) (eb : before ≡ off Tk x) where
@@ -186,6 +189,7 @@ module _ (file : List ℕ) (k s q : ℕ) where
         record {
           inside = (hs, i .below, l);
           is = sym (clause7 P _ s x (q - before) hs (i .below) l (omega (arith, i .begun)));
+          number = omega (arith, i .begun);
         }
 
   module _ (m : ℕ) (em : m ≡ A Tk) where
@@ -197,7 +201,7 @@ module _ (file : List ℕ) (k s q : ℕ) where
     unfolding PlacedIn numberIn problemOf stepsOf widthOf
     two-actions-placed a b hs p =
         let p′ : PairAt (A Tk) q a b = rw em at p in
-        record { inside = (hs, p′ .rising, p′ .below); is = sym (clause8 Tk k _ s q a b hs p′ refl) }
+        record { inside = (hs, p′ .rising, p′ .below); is = sym (clause8 Tk k _ s q a b hs p′ refl); number = omega (arith, p′ .is) }
 
   pub pairs-wanted : q < widthOf Tk 3 → q < valuePairsBefore Tk (n Tk)
   unfolding widthOf

@@ -21,7 +21,8 @@ use Rattle.formula.specs.declared.place.Place.{Place}
 use Rattle.formula.specs.declared.place.Place.the-variants.{Start, Goal, AllValues, TwoValues, Precondition, Effect, Stays, TwoActions}
 use Rattle.formula.specs.Placed.{clauseAt}
 use Rattle.formula.specs.Front.{valuesTo}
-use Rattle.lines.specs.Written.{Wrote, literals, lineEnd, literalRoom, endRoom, lineRoom}
+use Rattle.digits.specs.Over.{Wrote}
+use Rattle.lines.specs.Written.{literals, lineEnd, literalRoom, endRoom, lineRoom}
 use Rattle.lines.specs.AtPlace.{placeLine, RoomFor}
 use Rattle.lines.proofs.Writes.{wrote-literals, wrote-line, no-literals}
 

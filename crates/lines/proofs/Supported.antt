@@ -19,7 +19,8 @@ use Rattle.rules.proofs.Files.{accepted-well-formed}
 use Rattle.task.specs.Index.{Indexed}
 use Rattle.formula.specs.Front.{isGiven, supporter, supportersTo}
 use Rattle.formula.proofs.Supported.{supporters-all}
-use Rattle.lines.specs.Written.{Wrote, literals, literalRoom, supportersRoom}
+use Rattle.digits.specs.Over.{Wrote}
+use Rattle.lines.specs.Written.{literals, literalRoom, supportersRoom}
 use Rattle.lines.proofs.Writes.{wrote-literals, no-literals}
 
 module _ (file : List ℕ) (k s x v : ℕ) where

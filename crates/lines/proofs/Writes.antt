@@ -1,31 +1,21 @@
 -- Laws of writing: one text behind the other is one text, and literals with a line's end are a line.
 -- Assumes nothing.
-use mathlib.Core.Path.{_≡_, refl, sym, ap, _∙_}
+use mathlib.Core.Path.{_≡_, refl}
 use mathlib.Core.List.{List, [], _∷_, _++_, append-assoc, append-nil}
 use Prim.Native.Nat.{ℕ, _+_, _≤_, _<_}
 use native.Mathlib.Omega.{arith}
-use lib.ListN.{length, length-append}
+use lib.ListN.{length}
 use Rattle.rules.specs.Limits.{maxN}
 use Rattle.rules.specs.Counting.{joined}
 use Rattle.rules.specs.Families.{Literal, plus, minus, Clause}
 use Rattle.rules.specs.Text.{lf, space, dash, digit0, decimal, literalText, clauseLine}
 use Rattle.rules.proofs.Decimal.{decimal-few}
-use Rattle.digits.specs.Over.{over}
+use Rattle.digits.specs.Over.{over, Wrote}
 use Rattle.digits.specs.Bound.{pastNumbers}
-use Rattle.digits.proofs.Overs.{over-over, over-none}
-use Rattle.lines.specs.Written.{Wrote, literals, lineEnd, literalRoom}
+use Rattle.digits.proofs.Overs.{wrote-nothing, wrote-more}
+use Rattle.lines.specs.Written.{literals, lineEnd, literalRoom}
 
 -- ---- one behind the other
-
-pub wrote-nothing : (l : List ℕ) (at : ℕ) → Wrote l at [] l at
-wrote-nothing l at = record { written = sym (over-none l at); behind = omega arith }
-
-pub wrote-more : (l m m′ : List ℕ) (at e e′ : ℕ) (x y : List ℕ) → Wrote l at x m e → Wrote m e y m′ e′ → Wrote l at (x ++ y) m′ e′
-wrote-more l m m′ at e e′ x y p q =
-    record {
-      written = q .written ∙ rw (p .written, p .behind) (over-over l at x y);
-      behind = q .behind ∙ rw (p .behind, length-append x y) (omega arith);
-    }
 
 pub literals-append : (c d : Clause) → literals (c ++ d) ≡ literals c ++ literals d
 unfolding literals joined

@@ -1,18 +1,11 @@
--- What a writer of text leaves: the text from a place on, nothing else changed, and the place behind it.
+-- Literals as text, and room that surely suffices for them.
 -- Assumes nothing.
 use Prim.Native.Nat.{ℕ, _+_, _*_}
-use mathlib.Core.Path.{_≡_}
 use mathlib.Core.List.{List, [], _∷_, _++_, map}
-use lib.ListN.{length}
 use Rattle.rules.specs.Limits.{maxActions, maxLiterals}
 use Rattle.rules.specs.Counting.{joined}
 use Rattle.rules.specs.Families.{Literal}
 use Rattle.rules.specs.Text.{lf, space, digit0, literalText}
-use Rattle.digits.specs.Over.{over}
-
-pub record Wrote (before : List ℕ) (at : ℕ) (text after : List ℕ) (end : ℕ) : Type 0 where
-  pub written : after ≡ over before at text
-  pub behind : end ≡ at + length text
 
 -- literals, each with a space behind it
 unfoldable pub literals : List Literal → List ℕ

@@ -20,7 +20,8 @@ ghost use lib.ListN.{length};
 ghost use Rattle.rules.specs.Limits.{maxHorizon};
 ghost use Rattle.task.specs.Index.{Indexed};
 ghost use Rattle.formula.specs.declared.place.Place.{Place};
-ghost use Rattle.lines.specs.Written.{Wrote, lineRoom};
+ghost use Rattle.digits.specs.Over.{Wrote};
+ghost use Rattle.lines.specs.Written.{lineRoom};
 ghost use Rattle.lines.specs.AtPlace.{placeLine, RoomFor};
 
 // The start value of a variable.

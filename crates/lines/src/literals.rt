@@ -9,7 +9,8 @@ ghost use lib.ListN.{length};
 ghost use Rattle.rules.specs.Limits.{maxN};
 ghost use Rattle.rules.specs.Text.{clauseLine};
 ghost use Rattle.rules.specs.Families.{plus, minus};
-ghost use Rattle.lines.specs.Written.{Wrote, literals, lineEnd, literalRoom, endRoom, pairRoom};
+ghost use Rattle.digits.specs.Over.{Wrote};
+ghost use Rattle.lines.specs.Written.{literals, lineEnd, literalRoom, endRoom, pairRoom};
 
 // A positive literal and the space behind it.
 pub fn put_plus(out: &mut [u8], at: usize, number: FormulaNumber) -> usize

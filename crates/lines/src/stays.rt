@@ -16,7 +16,8 @@ ghost use Rattle.rules.specs.File.{taskOf};
 ghost use Rattle.task.specs.Index.{Indexed};
 ghost use Rattle.formula.specs.declared.place.Place.{Place};
 ghost use Rattle.formula.specs.Front.{supporter};
-ghost use Rattle.lines.specs.Written.{Wrote, literals, literalRoom, lineRoom, supportersRoom};
+ghost use Rattle.digits.specs.Over.{Wrote};
+ghost use Rattle.lines.specs.Written.{literals, literalRoom, lineRoom, supportersRoom};
 ghost use Rattle.lines.specs.AtPlace.{placeLine, RoomFor};
 
 // The literal of action a, if it has the effect x = v.

@@ -5,6 +5,7 @@ pub mod ScanLaws
 pub mod StatusLaws
 pub mod LineLaws
 pub mod FeedLaws
+pub mod Kept
 pub mod Whole
 pub mod Decided
 pub mod Said

@@ -2,29 +2,34 @@
 -- Assumes nothing.
 use mathlib.Core.Path.{_≡_, refl, sym, ap, _∙_}
 use mathlib.Core.Logic.{⊎-elim}
-use mathlib.Core.Bool.{cond}
+use mathlib.Core.Bool.{Bool, true, cond}
 use mathlib.Core.List.{List, [], _∷_, _++_, foldl, foldl-append, append-assoc, append-nil}
 use Prim.Native.Nat.{ℕ, _+_, _≤_, _<_, min}
 use native.Mathlib.Omega.{arith}
 use native.Mathlib.Numerals.{add-one}
 use borrow.Author.Tests.{eq-eqb, ne-eqb, eqb-true, eqb-false, le-leb, lt-leb, lt-ltb, le-ltb}
-use lib.Dec.{eqb}
+use lib.Dec.{eqb, leb}
 use lib.ListN.{length, take, set, length-append, length-take, length-set}
 use lib.Seq.{take-all, take-suc-set, take-append-le}
 use Rattle.rules.specs.Counting.{joined}
 use Rattle.rules.specs.Limits.{maxLine}
-use Rattle.rules.specs.Answers.{judge}
+use Rattle.rules.specs.Answers.{demand, judge, inTurn}
 use Rattle.rules.specs.Text.{lf}
+use Rattle.rules.specs.Families.{Literal}
 use Rattle.rules.specs.Rows.{Rows}
-use Rattle.rules.specs.Lines.{onto, pieces, lineVerdict, rowsFit, Progress, progress, readLine}
+use Rattle.rules.specs.Lines.{onto, pieces, kindOf, lineVerdict, phaseAfter, named, rowsFit, Progress, progress, readLine}
 use Rattle.rules.specs.Output.{withoutEmptyLast, linesOf, readOn, readLines, readOutput}
 use Rattle.rules.specs.declared.Refusal.{Refusal}
 use Rattle.rules.specs.declared.Refusal.the-variants.{Room, Grammar}
+use Rattle.rules.specs.declared.Verdict.{Verdict}
+use Rattle.rules.specs.declared.Verdict.the-variants.{Accepted, Refused}
 use Rattle.rules.specs.declared.Reading.{Reading}
 use Rattle.rules.specs.declared.LineAnswer.{LineAnswer}
-use Rattle.rules.proofs.Bools.{either, below-or}
-use Rattle.output.specs.Feeding.{lineRoom, Fed, fedByte, feedByte, feedAll, feedCall, finished, finish, finishCall}
+use Rattle.rules.proofs.Bools.{either, below-or, and-left}
+use Rattle.output.specs.Line.{bothFit}
+use Rattle.output.specs.Feeding.{lineRoom, Fed, fedByte, feedByte, feedAll, roomFor, hasRoom, feedCall, finished, finish, finishCall}
 use Rattle.output.proofs.WordLaws.{pieces-cut}
+use Rattle.output.proofs.Kept.{all-keep}
 
 -- ---- pieces do not matter
 
@@ -201,25 +206,45 @@ whole reading rows line bytes h =
     read-all bytes (LineAnswer.Next reading) rows 0 line [] (holds-none line h)
     ∙ ap (λ ls. foldl step (record { answer = LineAnswer.Next reading; rows = rows }) (withoutEmptyLast ls)) (prefixed-none bytes)
 
--- ---- the calls: fed from the start in any pieces, with room for a line
+-- ---- the calls: fed from the start in any pieces, with room for a line and for the rows
+
+abbrev roomAfter : Progress → (line : ℕ) → Bool
+roomAfter p line = roomFor (p .answer) (length (p .rows .given)) (length (p .rows .isTrue)) line
+
+-- room for a reading is room for what a line leaves of it
+room-kept : (v : Verdict) (reading next : Reading) (ls : List Literal) (rows : Rows) (line : ℕ) → next .highest ≡ reading .highest
+    → roomAfter (record { answer = LineAnswer.Next reading; rows = rows }) line ≡ true → roomAfter (progress v next ls rows) line ≡ true
+unfolding roomFor
+room-kept Accepted reading next ls rows line e h = rw (e, all-keep rows ls .given, all-keep rows ls .isTrue) h
+room-kept (Refused why) reading next ls rows line e h = and-left (leb lineRoom line) (bothFit (reading .highest) (length (rows .given)) (length (rows .isTrue))) h
+
+room-read : (reading : Reading) (rows : Rows) (bytes : List ℕ) (line : ℕ) → roomAfter (record { answer = LineAnswer.Next reading; rows = rows }) line ≡ true
+    → roomAfter (readLine reading rows bytes) line ≡ true
+unfolding readLine
+room-read reading rows bytes line h =
+    room-kept (inTurn (judge (demand (rowsFit (reading .highest) rows) Room ∷ [])) (lineVerdict reading (rows .given) bytes)) reading
+    (record { highest = reading .highest; phase = phaseAfter (kindOf bytes) reading (rows .given) bytes })
+    (named (kindOf bytes) reading (rows .given) bytes) rows line refl h
 
 record Sound (fed : Fed) : Type 0 where
-  room : lineRoom ≤ length (fed .line)
+  room : hasRoom fed ≡ true
   within : fed .held ≤ lineRoom
 
-sound-byte : (answer : LineAnswer) (rows : Rows) (held : ℕ) (line : List ℕ) (b : ℕ) → lineRoom ≤ length line → held ≤ lineRoom → Sound (fedByte answer rows held line b)
+sound-byte : (answer : LineAnswer) (rows : Rows) (held : ℕ) (line : List ℕ) (b : ℕ) → roomAfter (record { answer = answer; rows = rows }) (length line) ≡ true → held ≤ lineRoom
+    → Sound (fedByte answer rows held line b)
+unfolding hasRoom
 sound-byte (LineAnswer.Refused why) rows held line b h k = record { room = h; within = k }
 sound-byte (LineAnswer.Next reading) rows held line b h k =
-    ⊎-elim (λ t. rw t (record { room = h; within = omega arith }))
+    ⊎-elim (λ t. rw t (record { room = room-read reading rows (take held line) (length line) h; within = omega arith }))
     (λ t.
     rw t
-    (⊎-elim (λ l. rw (lt-ltb held lineRoom l) (record { room = omega (arith, length-set line held b); within = omega arith }))
+    (⊎-elim (λ l. rw (lt-ltb held lineRoom l) (record { room = rw (length-set line held b) h; within = omega arith }))
     (λ l. rw (le-ltb held lineRoom l) (record { room = h; within = k }))
     (below-or held lineRoom)))
     (either (eqb b lf))
 
 sound-all : (fed : Fed) (bytes : List ℕ) → Sound fed → Sound (feedAll fed bytes)
-unfolding feedAll feedByte
+unfolding feedAll feedByte hasRoom
 sound-all fed [] s = s
 sound-all fed (b ∷ bytes) s =
     sound-all (feedByte fed b) bytes (sound-byte (fed .progress .answer) (fed .progress .rows) (fed .held) (fed .line) b (s .room) (s .within))
@@ -231,11 +256,11 @@ no-more-held fed s =
 
 call-feeds : (fed : Fed) (bytes : List ℕ) → Sound fed → feedCall fed bytes ≡ feedAll fed bytes
 unfolding feedCall
-call-feeds fed bytes s = rw (le-leb lineRoom (length (fed .line)) (s .room)) (ap (λ f. feedAll f bytes) (no-more-held fed s))
+call-feeds fed bytes s = rw (s .room) (ap (λ f. feedAll f bytes) (no-more-held fed s))
 
 call-finishes : (fed : Fed) → Sound fed → finishCall fed ≡ finish fed
 unfolding finishCall
-call-finishes fed s = rw (le-leb lineRoom (length (fed .line)) (s .room)) (ap finish (no-more-held fed s))
+call-finishes fed s = rw (s .room) (ap finish (no-more-held fed s))
 
 calls-feed : (fed : Fed) (parts : List (List ℕ)) → Sound fed → foldl feedCall fed parts ≡ feedAll fed (joined parts)
 unfolding joined
@@ -245,12 +270,18 @@ calls-feed fed (p ∷ parts) s =
     ∙ calls-feed (feedAll fed p) parts (sound-all fed p s)
     ∙ fed-in-pieces fed p (joined parts)
 
-pub read-in-parts : (reading : Reading) (rows : Rows) (line : List ℕ) (parts : List (List ℕ)) → lineRoom ≤ length line
+room-begun : (reading : Reading) (rows : Rows) (line : ℕ) → lineRoom ≤ line → rowsFit (reading .highest) rows ≡ true
+    → roomAfter (record { answer = LineAnswer.Next reading; rows = rows }) line ≡ true
+unfolding roomFor rowsFit bothFit
+room-begun reading rows line h f = rw (le-leb lineRoom line h) f
+
+pub read-in-parts : (reading : Reading) (rows : Rows) (line : List ℕ) (parts : List (List ℕ)) → lineRoom ≤ length line → rowsFit (reading .highest) rows ≡ true
     → finishCall (foldl feedCall (record { progress = record { answer = LineAnswer.Next reading; rows = rows }; held = 0; line = line }) parts)
     ≡ readOutput reading rows (joined parts)
-read-in-parts reading rows line parts h =
+unfolding hasRoom
+read-in-parts reading rows line parts h f =
     let begun : Fed = record { progress = record { answer = LineAnswer.Next reading; rows = rows }; held = 0; line = line } in
-    let s : Sound begun = record { room = h; within = omega arith } in
+    let s : Sound begun = record { room = room-begun reading rows (length line) h f; within = omega arith } in
     ap finishCall (calls-feed begun parts s)
     ∙ call-finishes (feedAll begun (joined parts)) (sound-all begun (joined parts) s)
     ∙ whole reading rows line (joined parts) h

@@ -2,7 +2,7 @@
 -- have at most.
 -- Assumes nothing.
 use Prim.Native.Nat.{ℕ, _+_, min}
-use mathlib.Core.Bool.{cond}
+use mathlib.Core.Bool.{Bool, cond, _&&_}
 use mathlib.Core.List.{List, foldl}
 use lib.Dec.{eqb, leb, ltb}
 use lib.ListN.{length, take, set}
@@ -12,7 +12,7 @@ use Rattle.rules.specs.Rows.{Rows}
 use Rattle.rules.specs.Lines.{Progress, readLine}
 use Rattle.rules.specs.declared.Refusal.the-variants.{Room}
 use Rattle.rules.specs.declared.LineAnswer.{LineAnswer}
-use Rattle.output.specs.Line.{leaves}
+use Rattle.output.specs.Line.{leaves, bothFit}
 use Rattle.output.specs.declared.feeding.Feed.{Feed}
 
 -- a line that is too long is told by one byte more than it may have
@@ -43,10 +43,18 @@ feedByte fed b = fedByte (fed .progress .answer) (fed .progress .rows) (fed .hel
 unfoldable pub feedAll : Fed → List ℕ → Fed
 feedAll fed bytes = foldl feedByte fed bytes
 
--- the call: room for a line has to be lent, and no more is held than that
+-- so many words and bytes are room for a line and for the rows of a reading; a refused reading needs no rows
+unfoldable pub roomFor : LineAnswer → (given isTrue line : ℕ) → Bool
+roomFor (LineAnswer.Next reading) given isTrue line = leb lineRoom line && bothFit (reading .highest) given isTrue
+roomFor (LineAnswer.Refused why) given isTrue line = leb lineRoom line
+
+unfoldable pub hasRoom : Fed → Bool
+hasRoom fed = roomFor (fed .progress .answer) (length (fed .progress .rows .given)) (length (fed .progress .rows .isTrue)) (length (fed .line))
+
+-- the call: room has to be lent, and no more is held than that
 unfoldable pub feedCall : Fed → List ℕ → Fed
 feedCall fed bytes =
-    cond (leb lineRoom (length (fed .line))) (feedAll (record { progress = fed .progress; held = min (fed .held) lineRoom; line = fed .line }) bytes)
+    cond (hasRoom fed) (feedAll (record { progress = fed .progress; held = min (fed .held) lineRoom; line = fed .line }) bytes)
     (record { progress = record { answer = LineAnswer.Refused Room; rows = fed .progress .rows }; held = fed .held; line = fed .line })
 
 -- what is held at the end is a line
@@ -60,5 +68,5 @@ finish fed = finished (fed .progress .answer) (fed .progress .rows) (fed .held) 
 
 unfoldable pub finishCall : Fed → Progress
 finishCall fed =
-    cond (leb lineRoom (length (fed .line))) (finish (record { progress = fed .progress; held = min (fed .held) lineRoom; line = fed .line }))
+    cond (hasRoom fed) (finish (record { progress = fed .progress; held = min (fed .held) lineRoom; line = fed .line }))
     (record { answer = LineAnswer.Refused Room; rows = fed .progress .rows })

@@ -11,9 +11,7 @@ use Rattle.rules.specs.declared.Refusal.the-variants.{Room}
 use Rattle.rules.specs.declared.Phase.the-variants.{NoStatus}
 use Rattle.rules.specs.declared.LineAnswer.{LineAnswer}
 use Rattle.rules.specs.declared.Reading.{Reading}
-
-abbrev pub lent : (given isTrue : List ℕ) → Rows
-lent given isTrue = record { given = given; isTrue = isTrue }
+pub use Rattle.rows.specs.Lent.{lent}
 
 abbrev pub leaves : LineAnswer → (given isTrue : List ℕ) → Progress
 leaves answer given isTrue = record { answer = answer; rows = lent given isTrue }

@@ -7,7 +7,7 @@ ghost use Prim.Native.Nat.{_≤_, min};
 ghost use lib.ListN.{length};
 ghost use Rattle.rules.specs.declared.LineAnswer.the-variants.{Next};
 ghost use Rattle.output.specs.Line.{leaves};
-ghost use Rattle.output.specs.Feeding.{lineRoom, feedLeaves, feedByte, feedCall, finishCall};
+ghost use Rattle.output.specs.Feeding.{lineRoom, roomFor, feedLeaves, feedByte, feedCall, finishCall};
 
 // The room that a line needs: one byte more than it may have.
 pub const LINE_ROOM: usize = 4097;
@@ -26,6 +26,19 @@ pub fn begin(reading: Reading) -> Feed
         answer: LineAnswer::Next(reading),
         held: 0,
     }
+}
+
+// Whether so many words and bytes are room for the rows of a reading and for a line.
+fn has_room(answer: LineAnswer, given: usize, truth: usize, line: usize) -> bool
+    ensures { λ r. ⌜ r ≡ roomFor answer given truth line ⌝ }
+{
+    if line < LINE_ROOM {
+        return false;
+    }
+    let LineAnswer::Next(reading) = answer else {
+        return true;
+    };
+    crate::rows_fit(reading.highest, given, truth)
 }
 
 fn smaller(a: usize, b: usize) -> usize
@@ -76,7 +89,7 @@ pub fn take_bytes(
     ensures { λ r. ⌜ feedLeaves r (now (given .exit)) (now (truth .exit)) (now (line .exit)) ≡ feedCall (feedLeaves state (now (given .entry)) (now (truth .entry)) (now (line .entry))) (now (bytes .entry)) ⌝ }
 {
     let answer = state.answer;
-    if line.len() < LINE_ROOM {
+    if !has_room(answer, given.len(), truth.len(), line.len()) {
         return Feed {
             answer: LineAnswer::Refused(Refusal::Room),
             held: state.held,
@@ -97,7 +110,7 @@ pub fn finish(state: Feed, given: &mut [u64], truth: &mut [u64], line: &[u8]) ->
     ensures { λ r. ⌜ leaves r (now (given .exit)) (now (truth .exit)) ≡ finishCall (feedLeaves state (now (given .entry)) (now (truth .entry)) (now (line .entry))) ⌝ }
 {
     let answer = state.answer;
-    if line.len() < LINE_ROOM {
+    if !has_room(answer, given.len(), truth.len(), line.len()) {
         return LineAnswer::Refused(Refusal::Room);
     }
     let held = smaller(state.held, LINE_ROOM);

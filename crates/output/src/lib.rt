@@ -51,7 +51,7 @@ pub fn read_line(reading: Reading, given: &mut [u64], truth: &mut [u64], line: &
     if MAX_LINE < line.len() {
         return LineAnswer::Refused(Refusal::Grammar(MAX_LINE));
     }
-    let first = words::byte_at(line, 0);
+    let first = bytes::byte_at(line, 0);
     if first == b'c' {
         return status::comment_line(reading, line);
     }

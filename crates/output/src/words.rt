@@ -33,16 +33,6 @@ pub fn word_end(line: &[u8], at: usize) -> usize
     end
 }
 
-// The byte at a place; past the end it is 0.
-pub fn byte_at(bytes: &[u8], i: usize) -> u8
-    ensures { λ r. ⌜ r ≡ byte (now (bytes .entry)) i ⌝ }
-{
-    if i < bytes.len() {
-        return bytes[i];
-    }
-    0
-}
-
 // Whether a line's first byte is all of it, or a space follows.
 pub fn stands_alone(line: &[u8]) -> bool
     ensures { λ r. ⌜ r ≡ (eqb (length (now (line .entry))) 1 || eqb (byte (now (line .entry)) 1) space) ⌝ }
@@ -50,14 +40,14 @@ pub fn stands_alone(line: &[u8]) -> bool
     if line.len() == 1 {
         return true;
     }
-    byte_at(line, 1) == b' '
+    bytes::byte_at(line, 1) == b' '
 }
 
 // 1 where a word begins with a minus.
 fn sign_bytes(word: &[u8]) -> usize
     ensures { λ r. ⌜ (r ≡ signBytes (now (word .entry))) × (r ≤ length (now (word .entry))) ⌝ }
 {
-    if byte_at(word, 0) == b'-' {
+    if bytes::byte_at(word, 0) == b'-' {
         return 1;
     }
     0
@@ -95,7 +85,7 @@ fn reach_of(word: &[u8]) -> usize
 {
     let sign = sign_bytes(word);
     let digits = &word[sign..];
-    if byte_at(digits, 0) == b'0' {
+    if bytes::byte_at(digits, 0) == b'0' {
         return 1;
     }
     sign + digit_run(digits)

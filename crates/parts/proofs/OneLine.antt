@@ -13,13 +13,12 @@ use Rattle.rules.specs.Problem.{Problem}
 use Rattle.rules.specs.Families.{C, clause}
 use Rattle.rules.specs.Text.{clauseLine}
 use Rattle.rules.specs.Calls.{problemOf}
-use Rattle.digits.specs.Over.{over}
-use Rattle.digits.proofs.Overs.{over-over, over-none, set-over}
+use Rattle.digits.specs.Over.{over, Wrote}
+use Rattle.digits.proofs.Overs.{over-over, over-none, set-over, wrote-nothing}
 use Rattle.formula.specs.declared.place.Place.{Place}
 use Rattle.formula.specs.InFamily.{IsAt}
-use Rattle.lines.specs.Written.{Wrote, lineRoom}
+use Rattle.lines.specs.Written.{lineRoom}
 use Rattle.lines.specs.AtPlace.{placeLine, RoomFor}
-use Rattle.lines.proofs.Writes.{wrote-nothing}
 use Rattle.parts.specs.Runs.{run, PutPart}
 
 -- ---- the line of clause c stands at its place

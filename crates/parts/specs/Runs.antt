@@ -9,7 +9,7 @@ use Rattle.rules.specs.Problem.{Problem}
 use Rattle.rules.specs.Families.{C, clause}
 use Rattle.rules.specs.Text.{clauseLine}
 use Rattle.rules.specs.Calls.{problemOf}
-use Rattle.lines.specs.Written.{Wrote}
+use Rattle.digits.specs.Over.{Wrote}
 
 unfoldable pub run : Problem → (c m : ℕ) → List ℕ
 run P c m = forEach m (λ i. clauseLine (clause P (c + i)))

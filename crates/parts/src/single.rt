@@ -8,7 +8,8 @@ ghost use Rattle.rules.specs.Families.{C, clause};
 ghost use Rattle.rules.specs.Text.{clauseLine};
 ghost use Rattle.rules.specs.Calls.{problemOf};
 ghost use Rattle.task.specs.Index.{Indexed};
-ghost use Rattle.lines.specs.Written.{Wrote, lineRoom};
+ghost use Rattle.digits.specs.Over.{Wrote};
+ghost use Rattle.lines.specs.Written.{lineRoom};
 ghost use Rattle.parts.specs.Runs.{PutPart};
 
 // Room that surely suffices for a line: 514 literals of 7 bytes, and its end.

@@ -2,3 +2,4 @@
 pub mod Bound
 pub mod Bits
 pub mod Stretch
+pub mod Lent

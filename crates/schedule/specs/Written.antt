@@ -8,12 +8,9 @@ use lib.ListN.{length, getD}
 use Rattle.rules.specs.Task.{Task, n, d}
 use Rattle.rules.specs.Problem.{Problem}
 use Rattle.rules.specs.Numbering.{valueNumber, actionNumber}
-use Rattle.rules.specs.Rows.{Rows, withVariable}
+use Rattle.rules.specs.Rows.{withVariable}
 use Rattle.rules.specs.Walk.{State, entry, stateAt}
-
--- two rows that are lent
-abbrev pub lent : (given isTrue : List ℕ) → Rows
-lent given isTrue = record { given = given; isTrue = isTrue }
+pub use Rattle.rows.specs.Lent.{lent}
 
 -- both rows have the words that are needed, and there is an entry for each of k steps
 unfoldable pub fits : (words given isTrue k entries : ℕ) → Bool

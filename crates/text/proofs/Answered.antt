@@ -23,10 +23,9 @@ use Rattle.rules.specs.declared.Verdict.the-variants.{Accepted, Refused}
 use Rattle.rules.proofs.Bools.{below-or}
 use Rattle.rules.proofs.Judging.{judge-nil, judge-refused, judge-passed, judge-head, judge-append, inTurn-left, inTurn-right}
 use Rattle.task.specs.Index.{Indexed}
-use Rattle.digits.specs.Over.{over}
+use Rattle.digits.specs.Over.{over, Wrote}
 use Rattle.digits.proofs.Overs.{over-front, over-none}
 use Rattle.formula.proofs.Answered.{problem-right}
-use Rattle.lines.specs.Written.{Wrote}
 use Rattle.parts.specs.Runs.{run, PutPart}
 use Rattle.parts.proofs.OneLine.{made-first, one-line, no-line}
 use Rattle.text.specs.declared.calls.TextAnswer.the-variants as text

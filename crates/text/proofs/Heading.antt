@@ -16,10 +16,9 @@ use Rattle.rules.proofs.Decimal.{decimal-few}
 use Rattle.rules.proofs.Bounds.{N-bound, C-bound}
 use Rattle.rules.proofs.Files.{accepted-well-formed}
 use Rattle.task.specs.Index.{Indexed}
-use Rattle.digits.specs.Over.{over}
+use Rattle.digits.specs.Over.{over, Wrote}
 use Rattle.digits.specs.Bound.{pastNumbers}
-use Rattle.lines.specs.Written.{Wrote}
-use Rattle.lines.proofs.Writes.{wrote-more}
+use Rattle.digits.proofs.Overs.{wrote-more}
 use Rattle.text.specs.Heading.{headerStart, headerText, startLength, numberRoom}
 
 -- ---- a number and the byte behind it

@@ -4,3 +4,5 @@ pub mod Running
 pub mod Heading
 pub mod Answered
 pub mod Taken
+pub mod OneAnswer
+pub mod Demand

@@ -1,6 +1,7 @@
 -- The longest run of lines that fits is the run whose next line does not fit.
 -- Assumes nothing.
 use mathlib.Core.Path.{_≡_, refl, sym, ap, _∙_}
+use mathlib.Core.Logic.{⊎-elim}
 use mathlib.Core.List.{List, [], _∷_, _++_, append-assoc, append-nil}
 use Prim.Native.Nat.{ℕ, zero, suc, _+_, _-_, _≤_, _<_}
 use native.Mathlib.Omega.{arith}
@@ -13,6 +14,7 @@ use Rattle.rules.specs.Problem.{Problem}
 use Rattle.rules.specs.Families.{C, clause, formula}
 use Rattle.rules.specs.Text.{clauseLine, clauseLines}
 use Rattle.rules.specs.Calls.{problemOf, fitting, linesFrom}
+use Rattle.rules.proofs.Bools.{below-or}
 use Rattle.parts.specs.Runs.{run}
 
 -- ---- the longest run that fits
@@ -82,3 +84,27 @@ module _ (file : List ℕ) (k c room : ℕ) (h : c < C (problemOf file k)) where
   pub some-fit : length (clauseLine (clause (problemOf file k) c)) ≤ room → 1 ≤ length (linesFrom file k c room)
   unfolding linesFrom fitting
   some-fit s = rw (first-line (problemOf file k) c h, le-leb (length (clauseLine (clause (problemOf file k) c))) room s) (omega arith)
+
+  -- the lines that fit are a run
+  abbrev lines : List (List ℕ)
+  lines = drop c (clauseLines (problemOf file k))
+
+  fitting-most : (ls : List (List ℕ)) (room : ℕ) → fitting room ls ≤ length ls
+  unfolding fitting
+  fitting-most [] room = omega arith
+  fitting-most (l ∷ ls) room =
+      ⊎-elim
+      (λ short. rw (lt-leb (length l) room short) (omega arith))
+      (λ fits. let rest = fitting-most ls (room - length l) in rw (le-leb (length l) room fits) (omega arith))
+      (below-or room (length l))
+
+  pub lines-most : c + length (linesFrom file k c room) ≤ C (problemOf file k)
+  unfolding linesFrom
+  lines-most = omega (arith, h, length-take (fitting room lines) lines, all-lines (problemOf file k) c, fitting-most lines room)
+
+  pub run-taken : joined (linesFrom file k c room) ≡ run (problemOf file k) c (length (linesFrom file k c room))
+  unfolding linesFrom
+  run-taken =
+      let many : length (take (fitting room lines) lines) ≡ fitting room lines =
+      length-take (fitting room lines) lines ∙ omega (arith, fitting-most lines room) in
+      rw many (run-is (problemOf file k) c (fitting room lines) (omega (arith, h, all-lines (problemOf file k) c, fitting-most lines room)))

@@ -11,10 +11,8 @@ use Rattle.rules.specs.Problem.{Problem}
 use Rattle.rules.specs.Families.{C, clause}
 use Rattle.rules.specs.Text.{clauseLine}
 use Rattle.rules.specs.Calls.{problemOf, linesFrom}
-use Rattle.digits.specs.Over.{over}
-use Rattle.digits.proofs.Overs.{over-none}
-use Rattle.lines.specs.Written.{Wrote}
-use Rattle.lines.proofs.Writes.{wrote-nothing, wrote-more}
+use Rattle.digits.specs.Over.{over, Wrote}
+use Rattle.digits.proofs.Overs.{over-none, wrote-nothing, wrote-more}
 use Rattle.parts.specs.Runs.{run, PutPart}
 use Rattle.parts.proofs.OneLine.{no-line}
 use Rattle.text.proofs.Longest.{longest}

@@ -12,7 +12,7 @@ ghost use Rattle.rules.specs.Limits.{maxHorizon, maxN, maxC};
 ghost use Rattle.rules.specs.Text.{decimal, headerLine};
 ghost use Rattle.rules.specs.Calls.{problemOf};
 ghost use Rattle.task.specs.Index.{Indexed};
-ghost use Rattle.lines.specs.Written.{Wrote};
+ghost use Rattle.digits.specs.Over.{Wrote};
 ghost use Rattle.text.specs.Heading.{headerStart, headerText, startLength, numberRoom, headerRoom};
 
 // The bytes of "p cnf ".

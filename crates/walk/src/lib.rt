@@ -3,8 +3,8 @@ ghost use mathlib.Core.Path.{_≡_};
 ghost use Prim.Native.Nat.{_+_, _*_, _<_, _^_};
 ghost use lib.ListN.{set};
 ghost use Rattle.rules.specs.Counting.{every};
-ghost use Rattle.rules.specs.Limits.{byteValues, pairBytes};
-ghost use Rattle.rules.specs.File.{byte, actionIn, pairsAt};
+ghost use Rattle.rules.specs.Limits.{pairBytes};
+ghost use Rattle.rules.specs.File.{actionIn, pairsAt};
 ghost use Rattle.rules.specs.Walk.{holds, setPairs};
 ghost use Rattle.walk.specs.Lent.{pairAt, goalIn, firstUnmet, startValues};
 
@@ -19,23 +19,6 @@ pub struct State {
     pub values: [u8; MAX_VARIABLES],
 }
 
-// The byte at a place; past the end it is 0.
-fn byte_at(bytes: &[u8], i: usize) -> u8
-    ensures { λ r. ⌜ r ≡ byte (now (bytes .entry)) i ⌝ }
-{
-    if i < bytes.len() {
-        return bytes[i];
-    }
-    0
-}
-
-// The byte at a place as a number.
-fn number_at(bytes: &[u8], i: usize) -> usize
-    ensures { λ r. ⌜ (r ≡ byte (now (bytes .entry)) i) × (r < byteValues) ⌝ }
-{
-    byte_at(bytes, i) as usize
-}
-
 // The start values, and zeros behind them.
 pub fn start(body: &[u8]) -> State
     ensures { λ r. ⌜ r .values ≡ startValues (now (body .entry)) ⌝ }
@@ -43,7 +26,7 @@ pub fn start(body: &[u8]) -> State
     let mut values = [0; MAX_VARIABLES];
     let mut x = 0;
     while x < MAX_VARIABLES {
-        values[x] = byte_at(body, x);
+        values[x] = bytes::byte_at(body, x);
         x += 1;
     }
     State { values }
@@ -54,7 +37,7 @@ fn pair_holds(values: &[u8], pairs: &[u8], at: usize) -> bool
     requires { ⌜ at + 1 < 2 ^ 64 ⌝ }
     ensures { λ r. ⌜ r ≡ holds (now (values .entry)) (pairAt (now (pairs .entry)) at) ⌝ }
 {
-    byte_at(values, number_at(pairs, at)) == byte_at(pairs, at + 1)
+    bytes::byte_at(values, bytes::number_at(pairs, at)) == bytes::byte_at(pairs, at + 1)
 }
 
 // The first of the pairs from a place on that does not hold, or how many there are.
@@ -76,7 +59,7 @@ fn first_unmet(values: &[u8], pairs: &[u8], at: usize, count: usize) -> usize
 pub fn applies(values: &[u8], action: &[u8]) -> bool
     ensures { λ r. ⌜ r ≡ every (holds (now (values .entry))) (actionIn (now (action .entry)) .preconditions) ⌝ }
 {
-    let count = number_at(action, 0);
+    let count = bytes::number_at(action, 0);
     first_unmet(values, action, COUNT_BYTES, count) == count
 }
 
@@ -104,7 +87,11 @@ fn set_pairs(values: &mut [u8], pairs: &[u8], at: usize, count: usize)
     let mut i = 0;
     while i < count {
         let p = at + PAIR_BYTES * i;
-        set_value(&mut *values, number_at(pairs, p), byte_at(pairs, p + 1));
+        set_value(
+            &mut *values,
+            bytes::number_at(pairs, p),
+            bytes::byte_at(pairs, p + 1),
+        );
         i += 1;
     }
 }
@@ -113,8 +100,8 @@ fn set_pairs(values: &mut [u8], pairs: &[u8], at: usize, count: usize)
 fn set_effects(values: &mut [u8], action: &[u8])
     ensures { λ _. ⌜ now (values .exit) ≡ setPairs (now (values .entry)) (actionIn (now (action .entry)) .effects) ⌝ }
 {
-    let at = COUNT_BYTES + PAIR_BYTES * number_at(action, 0);
-    set_pairs(values, action, at, number_at(action, 1));
+    let at = COUNT_BYTES + PAIR_BYTES * bytes::number_at(action, 0);
+    set_pairs(values, action, at, bytes::number_at(action, 1));
 }
 
 // A move: the record that is lent is changed in place.

@@ -5,7 +5,7 @@ use Prim.Native.Nat.{_-_, _≤_}
 use borrow.Author.Needs.{needs}
 use lib.ListN.{length, drop}
 use Rattle.output.specs.Feeding.{lineRoom, feedLeaves, feedAll}
-use Rattle.output.proofs.FeedLaws.{fed-on, call-short, call-done}
+use Rattle.output.proofs.FeedLaws.{room-line, fed-on, call-short, call-done}
 use Rattle.output.proofs.feeding.take_bytes.Statement.{statement}
 use Rattle.output.proofs.feeding.take_bytes.Tie as tie
 
@@ -21,9 +21,10 @@ take-bytes-spec =
     (tie.spec
     Inv-loop
     μ-loop
+    (λ c κs. search needs)
     (λ c. search (needs, call-short))
     (λ c κs. search needs)
-    (λ c. search needs)
+    (λ c. (search needs, search needs, search needs, search (needs, room-line), search needs, search needs))
     (λ c. search needs)
     (λ c κs. search needs)
     (λ c. search needs)

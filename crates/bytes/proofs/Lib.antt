@@ -1,0 +1,2 @@
+-- What is proved of bytes by their place.
+pub mod OneAnswer

@@ -1,0 +1,2 @@
+-- What the proofs of this program's functions share.
+mod Given
