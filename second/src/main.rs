@@ -178,6 +178,9 @@ fn difference(index: u64, case: &Case, own: &[u8], other: &[u8]) -> String {
     let first = own.iter().zip(other).take_while(|(a, b)| a == b).count();
     let (here, there) = (reply_numbers(own), reply_numbers(other));
     let kind = case.kind;
+    if first == other.len() {
+        return format!("case {index}, {kind:?}: the other answers end; here {here:?}");
+    }
     format!("case {index}, {kind:?}: differs at byte {first}; here {here:?}, there {there:?}")
 }
 

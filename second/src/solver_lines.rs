@@ -233,9 +233,10 @@ pub fn fold_lines(state: ReadingState, output: &[u8], rows: &mut Rows) -> Fold {
     fold
 }
 
-/// Reads a whole output, refusals 10 to 14: the fold of its lines, so the
-/// lines before a refused one stay stored.
+/// Reads a whole output, refusals 10 to 14: the rows are judged, then it is
+/// the fold of its lines, so the lines before a refused one stay stored.
 pub fn read_output(state: ReadingState, output: &[u8], rows: &mut Rows) -> Answer<ReadingState> {
+    rows.judge(state.highest)?;
     let fold = fold_lines(state, output, rows);
     fold.refusal.map_or(Ok(fold.state), Err)
 }

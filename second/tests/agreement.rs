@@ -143,7 +143,9 @@ fn assert_rows_behind(before: &Case, after: &Case) {
 
 #[test]
 fn a_whole_output_is_the_fold_of_its_lines() {
-    for case in stream(3, 6_000).filter(|case| case.kind == Kind::Output) {
+    let outputs = stream(3, 6_000).filter(|case| case.kind == Kind::Output);
+    // With no line there is no call that could judge the rows.
+    for case in outputs.filter(|case| !case.text.is_empty()) {
         let (mut whole, mut fold) = (case.clone(), case.clone());
         fold.kind = Kind::FoldLines;
         let (whole_reply, fold_reply) = (reply(&mut whole), reply(&mut fold));

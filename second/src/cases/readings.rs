@@ -16,10 +16,11 @@ const ANY_PHASE: [u64; 5] = [NO_STATUS, SATISFIABLE_OPEN, CLOSED, UNSATISFIABLE,
 type Spoil = fn(&mut Maker, &mut Case, FormulaVariable);
 
 /// A reading that is not finished, not complete, or not a model.
-const SPOILS: [(usize, Spoil); 7] = [
+const SPOILS: [(usize, Spoil); 8] = [
     (2, Maker::other_phase),
     (4, Maker::take_variable),
     (6, Maker::turn_variable),
+    (6, Maker::swap_neighbours),
     (4, Maker::mark_unused),
     (1, Maker::other_highest),
     (1, Maker::shorten_given),
@@ -150,6 +151,17 @@ impl Maker {
     fn turn_variable(&mut self, case: &mut Case, variable: FormulaVariable) {
         let value = bit(&case.truth, variable);
         set_bit(&mut case.truth, variable, !value);
+    }
+
+    /// Mostly another value of a state variable, or another action at a step.
+    fn swap_neighbours(&mut self, case: &mut Case, variable: FormulaVariable) {
+        let below = FormulaVariable(variable.0.max(2) - 1);
+        let above = FormulaVariable(below.0 + 1);
+        if above.0 <= case.truth.len() as u64 * WORD_BITS {
+            let (low, high) = (bit(&case.truth, below), bit(&case.truth, above));
+            set_bit(&mut case.truth, below, high);
+            set_bit(&mut case.truth, above, low);
+        }
     }
 
     /// Bits behind the last variable and words behind the last word.
