@@ -7,6 +7,7 @@ use output::feeding::Feed;
 use rules::LineAnswer;
 use rules::Reading;
 use rules::Verdict;
+use task::problem::MAX_HORIZON;
 ghost use mathlib.Core.Path.{_≡_};
 ghost use Prim.Native.Nat.{_+_, _≤_, min};
 ghost use lib.ListN.{length};
@@ -29,8 +30,6 @@ pub const ROW_WORDS: usize = 1552;
 pub const TEXT_ROOM: usize = 1344;
 
 const BYTE_VALUES: usize = 256;
-
-const MAX_HORIZON: usize = 64;
 
 fn smaller(a: usize, b: usize) -> usize
     ensures { λ r. ⌜ r ≡ min a b ⌝ }
