@@ -32,6 +32,16 @@ between = space ∷ dash ∷ []
 abbrev pub ending : List ℕ
 ending = space ∷ digit0 ∷ lf ∷ []
 
+-- the bytes of a line beside its digits; the most digits of a number; the least number of three digits
+abbrev pub signs : ℕ
+signs = 6
+
+abbrev pub numberDigits : ℕ
+numberDigits = 5
+
+abbrev pub threeDigits : ℕ
+threeDigits = 100
+
 -- its beginning, to where q begins
 unfoldable pub headText : ℕ → List ℕ
 headText p = (dash ∷ decimal p) ++ between
