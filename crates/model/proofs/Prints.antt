@@ -3,7 +3,7 @@
 -- Assumes nothing.
 use mathlib.Core.Path.{_≡_, refl, sym, ap, ap₂, _∙_}
 use mathlib.Core.Logic.{_⊎_, inl, inr, ⊎-elim}
-use mathlib.Core.Bool.{Bool, true, _&&_}
+use mathlib.Core.Bool.{true, _&&_}
 use mathlib.Core.List.{List, [], _∷_, _++_, foldl, foldl-append, append-nil}
 use Prim.Native.Nat.{ℕ, _+_, _*_, _≤_, _<_}
 use native.Mathlib.Omega.{arith}
@@ -15,7 +15,6 @@ use Rattle.rules.specs.Counting.{joined}
 use Rattle.rules.specs.Answers.{demand, judge, inTurn}
 use Rattle.rules.specs.Limits.{maxHorizon, byteValues}
 use Rattle.rules.specs.File.{byte, word16}
-use Rattle.rules.specs.Text.{refusalLine}
 use Rattle.rules.specs.Problem.{Problem}
 use Rattle.rules.specs.Numbering.{N}
 use Rattle.rules.specs.Families.{Literal}
@@ -24,7 +23,7 @@ use Rattle.rules.specs.Truth.{modelIn}
 use Rattle.rules.specs.Readings.{scheduleOf}
 use Rattle.rules.specs.Lines.{kindOf, lineVerdict, phaseAfter, named, Progress, rowsFit, progress, readLine}
 use Rattle.rules.specs.Output.{firstReading, clearedRows, linesOf, readOn, readLines, readOutput, outcome}
-use Rattle.rules.specs.Calls.{problemOf, problemRules, problemVerdict, startVerdict, startedBy, startReading, endVerdict}
+use Rattle.rules.specs.Calls.{problemOf, problemRules, problemVerdict, startVerdict, startReading, endVerdict}
 use Rattle.rules.specs.Programs.{printed, scheduleText, freshRows, modelText, afterLines, modelOutput}
 use Rattle.rules.specs.declared.Refusal.{Refusal}
 use Rattle.rules.specs.declared.Refusal.the-variants.{Room}

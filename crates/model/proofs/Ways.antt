@@ -1,6 +1,6 @@
 -- The functions of the program, way by way.
 -- Assumes nothing.
-use mathlib.Core.Path.{_≡_, refl, sym, ap, ap₂, _∙_}
+use mathlib.Core.Path.{_≡_, refl, sym, ap, _∙_}
 use mathlib.Core.Logic.{⊎-elim}
 use mathlib.Core.List.{List, [], _∷_, _++_}
 use Prim.Native.Nat.{ℕ, _+_, _-_, _*_, _≤_, min}
@@ -18,9 +18,9 @@ use Rattle.rules.specs.Numbering.{N}
 use Rattle.rules.specs.Rows.{Rows, wordsFor}
 use Rattle.rules.specs.Truth.{Model, modelIn}
 use Rattle.rules.specs.Readings.{scheduleOf}
-use Rattle.rules.specs.Lines.{Progress, rowsFit}
+use Rattle.rules.specs.Lines.{rowsFit}
 use Rattle.rules.specs.Output.{outcome}
-use Rattle.rules.specs.Calls.{problemOf, problemRules, problemVerdict, lentAfter, lentRules, startReading, endVerdict, endEntries}
+use Rattle.rules.specs.Calls.{problemOf, problemRules, problemVerdict, lentAfter, startReading, endVerdict, endEntries}
 use Rattle.rules.specs.Programs.{printed, scheduleText}
 use Rattle.rules.specs.declared.Refusal.{Refusal}
 use Rattle.rules.specs.declared.Refusal.the-variants.{Horizon, Room}
@@ -43,7 +43,7 @@ use Rattle.output.specs.declared.feeding.Feed.{Feed}
 use Rattle.output.specs.Feeding.{Fed, feedLeaves, feedCall, finishCall}
 use Rattle.digits.specs.Over.{over}
 use Rattle.printing.specs.Printed.{endedRoom}
-use Rattle.model.specs.Parts.{headBytes, mostWords, textRoom, fileIn, linesIn, wordsBy, wordsNeeded, begun, endText, textAfter, lastText}
+use Rattle.model.specs.Parts.{headBytes, mostWords, textRoom, fileIn, linesIn, wordsNeeded, begun, endText, textAfter, lastText}
 
 -- ---- the first part
 
@@ -225,9 +225,6 @@ module _ (first g t : List ℕ) (fed : Fed) (a : LineAnswer) (e : leaves a g t �
 
 pub part-of : (n : ℕ) (l : List ℕ) → n ≤ length l → n ≡ length (take n l)
 part-of n l h = sym (length-take-le n l h)
-
-pub part-few : (n m : ℕ) (l : List ℕ) → length l ≡ m → length (take n l) ≤ m
-part-few n m l e = omega (arith, length-take n l)
 
 pub part-is : (n m : ℕ) (l : List ℕ) → n ≡ m → n ≤ length l → length (take n l) ≡ m
 part-is n m l e h = length-take-le n l h ∙ e

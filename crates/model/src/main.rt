@@ -14,7 +14,7 @@ ghost use mathlib.Core.Path.{_≡_};
 ghost use Prim.Native.Nat.{_≤_};
 ghost use lib.ListN.{length};
 ghost use Rattle.output.specs.Feeding.{lineRoom, feedLeaves};
-ghost use Rattle.model.specs.Parts.{firstRoom, textRoom, wordsNeeded, FedSome, Ended, Answered};
+ghost use Rattle.model.specs.Parts.{textRoom, wordsNeeded, FedSome, Ended, Answered};
 
 // More parts than any input has.
 const MOST_PARTS: usize = 18446744073709551615;
@@ -61,7 +61,7 @@ fn answer(
     line: &mut [u8],
     out: &mut [u8],
 ) -> usize
-    requires { ⌜ (length (now first) ≤ firstRoom) × (length (now given) ≡ wordsNeeded (now first)) × (length (now truth) ≡ wordsNeeded (now first)) ⌝ }
+    requires { ⌜ (length (now given) ≡ wordsNeeded (now first)) × (length (now truth) ≡ wordsNeeded (now first)) ⌝ }
     requires { ⌜ (lineRoom ≤ length (now line)) × (textRoom ≤ length (now out)) ⌝ }
     ensures { λ r. ⌜ Answered (now (first .entry)) (now (out .entry)) (now (out .exit)) r ⌝ }
 {

@@ -2,7 +2,7 @@
 -- Assumes nothing.
 use mathlib.Core.Path.{_≡_, refl, sym, ap, _∙_}
 use mathlib.Core.List.{List, [], _∷_, _++_, append-assoc}
-use Prim.Native.Nat.{ℕ, suc, _+_, _*_, _/_, _%_, _^_, _≤_, _<_}
+use Prim.Native.Nat.{ℕ, _+_, _*_, _/_, _%_, _^_, _≤_, _<_}
 use native.Mathlib.Omega.{arith}
 use native.Mathlib.Nat.{add-zero, zero-add}
 use native.Mathlib.Numerals.{add-one}
@@ -61,7 +61,7 @@ text-behind room at text now end i w h = w .behind ∙ ap (λ x. at + length x) 
 
 -- ---- a number of more than eighteen digits
 
-pub number-long : (m : ℕ) → pastNumbers ≤ m → decimal m ≡ decimal (m / 100) ++ ((digit0 + m / 10 % 10) ∷ (digit0 + m % 10) ∷ [])
+number-long : (m : ℕ) → pastNumbers ≤ m → decimal m ≡ decimal (m / 100) ++ ((digit0 + m / 10 % 10) ∷ (digit0 + m % 10) ∷ [])
 number-long m h =
     let tens : m / 10 / 10 ≡ m / 100 = omega arith in
     decimal-more m (omega arith)
@@ -71,7 +71,7 @@ number-long m h =
 long-length : (m : ℕ) → pastNumbers ≤ m → length (decimal m) ≡ length (decimal (m / 100)) + 2
 long-length m h = ap length (number-long m h) ∙ length-append (decimal (m / 100)) ((digit0 + m / 10 % 10) ∷ (digit0 + m % 10) ∷ [])
 
-pub number-few : (m : ℕ) → m < 2 ^ 64 → length (decimal m) ≤ numberRoom
+number-few : (m : ℕ) → m < 2 ^ 64 → length (decimal m) ≤ numberRoom
 number-few m h = decimal-few 19 m (omega arith)
 
 module _ (m at : ℕ) (room : List ℕ) (small : m < 2 ^ 64) (fits : at + numberRoom ≤ length room) where

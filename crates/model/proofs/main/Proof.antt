@@ -1,7 +1,7 @@
 -- `main` is safe and ends.
 -- Assumes nothing.
 use borrow.Author.Needs.{needs}
-use Rattle.model.proofs.Ways.{part-of, part-few, part-is}
+use Rattle.model.proofs.Ways.{part-of, part-is}
 use Rattle.model.proofs.Prints.{answer-within}
 use Rattle.model.proofs.main.Statement.{statement}
 use Rattle.model.proofs.main.Tie as tie
@@ -23,7 +23,7 @@ main-spec =
     (λ c. part-of _ _ (search needs))
     (λ c. search needs)
     (λ c. search needs)
-    (λ c κs. ((search (needs, part-few), search (needs, part-is), search (needs, part-is)), (search needs, search needs)))
+    (λ c κs. ((search (needs, part-is), search (needs, part-is)), (search needs, search needs)))
     (λ c. search (needs, answer-within))
     (λ c. part-of _ _ (search (needs, answer-within)))
     (λ c κs. search needs)
