@@ -205,9 +205,13 @@ fn tally() -> Outcome {
         found.entry((case.kind_number(), number)).or_default().push(detail);
         Ok(())
     })?;
-    for (kind, name) in KINDS.iter().enumerate() {
-        print!("{name:?}");
-        for ((_, number), details) in found.iter().filter(|((k, _), _)| *k == kind as u64 + 1) {
+    for kind in KINDS {
+        let of_kind = |((number, _), _): &(&(u64, u64), &Vec<u64>)| *number == kind_number(kind);
+        if !found.iter().any(|entry| of_kind(&entry)) {
+            continue;
+        }
+        print!("{kind:?}");
+        for ((_, number), details) in found.iter().filter(of_kind) {
             let different: BTreeSet<&u64> = details.iter().collect();
             print!(" {number}:{}/{}", details.len(), different.len());
         }

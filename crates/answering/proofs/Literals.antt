@@ -2,7 +2,7 @@
 -- Assumes nothing.
 use mathlib.Core.Path.{_≡_, refl, sym, ap, _∙_, subst}
 use mathlib.Core.Bool.{true, false, true≢false}
-use Prim.Native.Nat.{ℕ, zero, suc, _+_, _-_, _^_, _≤_, _<_}
+use Prim.Native.Nat.{ℕ, zero, suc, _-_, _^_, _≤_, _<_}
 use native.Mathlib.Omega.{arith}
 use native.Mathlib.Nat.{lt-of-le-of-lt, lt-trans}
 use lib.Dec.{T, lit<}
@@ -10,7 +10,7 @@ use borrow.Author.Tests.{ltb-true}
 use lib.IntN.{ℤ, pos, negsuc, negℤ, _+ℤ_, _-ℤ_, +ℤ-idl, +ℤ-one, -ℤ-one, negℤ-negℤ, natAbs, sucℤ, predℤ}
 use lib.Signed.{ltZ, nonNeg}
 use mir.Syntax.{w32, w64}
-use mir.Val.{bits, hbits, Fits, SFits, ofZ, toZ}
+use mir.Val.{hbits, Fits, SFits, ofZ, toZ}
 use mir.ValLaws.{toZ-pos, toZ-ofZ}
 
 abbrev Small : ℕ → Type 0

@@ -144,6 +144,7 @@ fn is_literal(word: u64) -> bool {
     word <= MAX_LITERAL || !word <= MAX_LITERAL
 }
 
+// The literal that a word is, 0 where it is none.
 fn literal_of(word: u64) -> i32 {
     if word <= MAX_LITERAL {
         return word as i32;

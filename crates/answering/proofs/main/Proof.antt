@@ -1,7 +1,8 @@
+-- `main` is safe and ends.
+-- Assumes nothing.
 use borrow.Author.Needs.{needs}
 use mathlib.Core.Path.{_≡_}
 use lib.ListN.{length}
-use native.Mathlib.Omega.{arith}
 use Rattle.answering.proofs.main.Statement.{statement}
 use Rattle.answering.proofs.main.Tie as tie
 

@@ -1,6 +1,7 @@
+-- `with_rooms` is safe and ends.
+-- Assumes nothing.
 use borrow.Author.Needs.{needs}
 use Rattle.answering.proofs.Laws.{prefix-length}
-use native.Mathlib.Omega.{arith}
 use Rattle.answering.proofs.with_rooms.Statement.{statement}
 use Rattle.answering.proofs.with_rooms.Tie as tie
 

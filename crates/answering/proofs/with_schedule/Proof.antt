@@ -1,6 +1,7 @@
+-- `with_schedule` is safe and ends.
+-- Assumes nothing.
 use borrow.Author.Needs.{needs}
 use Rattle.answering.proofs.Laws.{prefix-length}
-use native.Mathlib.Omega.{arith}
 use Rattle.answering.proofs.with_schedule.Statement.{statement}
 use Rattle.answering.proofs.with_schedule.Tie as tie
 
