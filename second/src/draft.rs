@@ -129,6 +129,7 @@ fn is_filled(size: Size) -> bool {
 /// reached, so that schedules of more than one move exist.
 pub fn draft(random: &mut Random, size: Size) -> Draft {
     const MOVE_ONCE_IN: usize = 8;
+    const SHARED_ONCE_IN: usize = 6;
     let measure = measure(size);
     let domains = domains(random, size, &measure);
     let start: Vec<u8> = domains.iter().map(|&d| random.below(d.into()) as u8).collect();
@@ -145,9 +146,23 @@ pub fn draft(random: &mut Random, size: Size) -> Draft {
         }
         actions.push(action);
     }
+    if random.once_in(SHARED_ONCE_IN) {
+        share_effect(random, &domains, measure.most_list, &mut actions);
+    }
     let goal_length = random.between(0, domains.len());
     let goal = any_pairs(random, &domains, goal_length);
     Draft { domains, start, goal, actions }
+}
+
+/// One effect in common, so that one clause lists every action.
+fn share_effect(random: &mut Random, domains: &[u8], most: usize, actions: &mut [DraftAction]) {
+    let pair = any_pairs(random, domains, 1)[0];
+    for DraftAction { effects, .. } in actions {
+        effects.retain(|other| other.0 != pair.0);
+        effects.truncate(most - 1);
+        effects.push(pair);
+        effects.sort_unstable();
+    }
 }
 
 fn domains(random: &mut Random, size: Size, measure: &Measure) -> Vec<u8> {

@@ -12,13 +12,14 @@ use std::collections::{BTreeMap, BTreeSet};
 use std::error::Error;
 use std::fs::File;
 use std::io::{self, BufReader, BufWriter, Read, Write};
-use std::process::ExitCode;
+use std::process::{Command, ExitCode, Stdio};
+use std::thread;
 
 type Outcome = Result<(), Box<dyn Error>>;
 
 const USAGE: &str = "clauses | model | cases SEED COUNT [NAME=VALUE ..] | answer | \
-    compare CASES ANSWERS | tally | pick INDEX | show | input | brute SEED COUNT | \
-    task SEED STEPS | good HORIZON";
+    compare CASES ANSWERS | programs CASES CLAUSES MODEL | tally | pick INDEX | show | input | \
+    brute SEED COUNT | task SEED STEPS | good HORIZON";
 
 fn main() -> ExitCode {
     let words: Vec<String> = std::env::args().skip(1).collect();
@@ -39,6 +40,7 @@ fn command(words: &[&str]) -> Outcome {
         ["cases", seed, count, options @ ..] => cases(seed.parse()?, count.parse()?, options),
         ["answer"] => answer(),
         ["compare", cases, answers] => compare(cases, answers),
+        ["programs", cases, clauses, model] => compare_programs(cases, clauses, model),
         ["tally"] => tally(),
         ["pick", index] => pick(index.parse()?),
         ["show"] => show(),
@@ -136,10 +138,54 @@ fn compare(cases: &str, answers: &str) -> Outcome {
     Ok(())
 }
 
+/// Runs the two programs themselves, given as commands, on the cases of their
+/// kinds and holds what they print against what is printed here.
+fn compare_programs(cases: &str, clauses: &str, model: &str) -> Outcome {
+    let mut count = 0;
+    each_case(File::open(cases)?, |index, case| {
+        let (command, own) = match case.kind {
+            Kind::ClausesProgram => (clauses, printed(clauses_program, &case.text)),
+            Kind::ModelProgram => (model, printed(model_program, &case.text)),
+            kind => return Err(format!("case {index}, {kind:?}: no case of a program").into()),
+        };
+        if output_of(command, case.text)? != own {
+            let kind = case.kind;
+            return Err(format!("case {index}, {kind:?}: {command} prints something else").into());
+        }
+        count += 1;
+        Ok(())
+    })?;
+    println!("{count} runs, no difference");
+    Ok(())
+}
+
+fn printed(program: Program, input: &[u8]) -> Vec<u8> {
+    let mut text = Vec::new();
+    program(input, &mut |line| text.extend_from_slice(line));
+    text
+}
+
+/// What a command prints for an input. A program that stops reading early may
+/// print all the same, so an input that it does not take is no fault here.
+fn output_of(command: &str, input: Vec<u8>) -> Result<Vec<u8>, Box<dyn Error>> {
+    let mut child = Command::new(command).stdin(Stdio::piped()).stdout(Stdio::piped()).spawn()?;
+    let mut stdin = child.stdin.take().ok_or("no standard input")?;
+    let writer = thread::spawn(move || drop(stdin.write_all(&input)));
+    let output = child.wait_with_output()?;
+    writer.join().map_err(|_| "the input's thread broke off")?;
+    match output.status.success() {
+        true => Ok(output.stdout),
+        false => Err(format!("{command} ends with {}", output.status).into()),
+    }
+}
+
 fn difference(index: u64, case: &Case, own: &[u8], other: &[u8]) -> String {
     let first = own.iter().zip(other).take_while(|(a, b)| a == b).count();
     let (here, there) = (reply_numbers(own), reply_numbers(other));
     let kind = case.kind;
+    if first == other.len() {
+        return format!("case {index}, {kind:?}: the other answers end; here {here:?}");
+    }
     format!("case {index}, {kind:?}: differs at byte {first}; here {here:?}, there {there:?}")
 }
 
@@ -150,7 +196,8 @@ fn reply_numbers(answer: &[u8]) -> Vec<u64> {
 
 const REPLY_NUMBERS: usize = 4;
 
-/// How often each kind gets each answer number, and with how many details.
+/// How often each kind gets each answer number, and with how many details; at
+/// last how often each number comes at all.
 fn tally() -> Outcome {
     let mut found: BTreeMap<(u64, u64), Vec<u64>> = BTreeMap::new();
     each_case(io::stdin().lock(), |_, mut case| {
@@ -166,6 +213,13 @@ fn tally() -> Outcome {
         }
         println!();
     }
+    print!("All");
+    let mut all: BTreeMap<u64, usize> = BTreeMap::new();
+    for ((_, number), details) in &found {
+        *all.entry(*number).or_default() += details.len();
+    }
+    all.iter().for_each(|(number, cases)| print!(" {number}:{cases}"));
+    println!();
     Ok(())
 }
 

@@ -215,9 +215,9 @@ fn lines_of_numbers(random: &mut Random, numbers: &[i64]) -> Vec<Vec<u8>> {
 }
 
 /// A line left out, doubled, moved or put in, the end left out, all lines
-/// shuffled, or another status.
+/// shuffled or doubled, or another status.
 fn spoil_lines(random: &mut Random, lines: &mut Vec<Vec<u8>>, highest: u64) {
-    const WAYS: usize = 7;
+    const WAYS: usize = 8;
     let index = random.below(lines.len());
     let other = random.below(lines.len());
     match random.below(WAYS) {
@@ -227,6 +227,7 @@ fn spoil_lines(random: &mut Random, lines: &mut Vec<Vec<u8>>, highest: u64) {
         3 => lines.insert(index, any_line(random, highest)),
         4 => lines.truncate(index),
         5 => random.shuffle(lines),
+        6 => lines.extend(lines.clone()),
         _ => replace_status(random, lines),
     }
 }

@@ -217,12 +217,9 @@ pub struct Fold {
 }
 
 /// Reads line after line up to the first refused one. The lines before it
-/// stay stored: each line is a call of its own.
+/// stay stored: each line is a call of its own, and no line is no call.
 pub fn fold_lines(state: ReadingState, output: &[u8], rows: &mut Rows) -> Fold {
-    let mut fold = Fold { state, lines_taken: 0, refusal: rows.judge(state.highest).err() };
-    if fold.refusal.is_some() {
-        return fold;
-    }
+    let mut fold = Fold { state, lines_taken: 0, refusal: None };
     for line in lines_of(output) {
         match read_line(fold.state, line, rows) {
             Ok(next) => fold.state = next,
@@ -236,17 +233,10 @@ pub fn fold_lines(state: ReadingState, output: &[u8], rows: &mut Rows) -> Fold {
     fold
 }
 
-/// Reads a whole output at one call, refusals 10 to 14. Being one call, a
-/// refusal leaves both rows as they were found.
+/// Reads a whole output, refusals 10 to 14: the rows are judged, then it is
+/// the fold of its lines, so the lines before a refused one stay stored.
 pub fn read_output(state: ReadingState, output: &[u8], rows: &mut Rows) -> Answer<ReadingState> {
-    let found = (rows.given.to_vec(), rows.truth.to_vec());
+    rows.judge(state.highest)?;
     let fold = fold_lines(state, output, rows);
-    match fold.refusal {
-        None => Ok(fold.state),
-        Some(refusal) => {
-            rows.given.copy_from_slice(&found.0);
-            rows.truth.copy_from_slice(&found.1);
-            Err(refusal)
-        }
-    }
+    fold.refusal.map_or(Ok(fold.state), Err)
 }

@@ -95,8 +95,9 @@ fn refusals_change_nothing_and_every_one_comes() {
         let mut after = before.clone();
         let answer = reply(&mut after);
         numbers.insert(answer.number);
-        // The lines a fold took before the refused one stay stored.
-        if answer.number != 0 && before.kind != Kind::FoldLines {
+        // The lines that were taken before the refused one stay stored.
+        let many_lines = matches!(before.kind, Kind::FoldLines | Kind::Output);
+        if answer.number != 0 && !many_lines {
             assert_eq!(before, after);
         }
     }
@@ -141,16 +142,16 @@ fn assert_rows_behind(before: &Case, after: &Case) {
 }
 
 #[test]
-fn an_output_at_one_call_is_the_fold_unless_refused() {
-    for case in stream(3, 6_000).filter(|case| case.kind == Kind::Output) {
+fn a_whole_output_is_the_fold_of_its_lines() {
+    let outputs = stream(3, 6_000).filter(|case| case.kind == Kind::Output);
+    // With no line there is no call that could judge the rows.
+    for case in outputs.filter(|case| !case.text.is_empty()) {
         let (mut whole, mut fold) = (case.clone(), case.clone());
         fold.kind = Kind::FoldLines;
         let (whole_reply, fold_reply) = (reply(&mut whole), reply(&mut fold));
         let judged = |reply: second::answers::Reply| (reply.number, reply.detail);
         assert_eq!(judged(whole_reply), judged(fold_reply));
-        if whole_reply.number == 0 {
-            assert_eq!((whole.given, whole.truth), (fold.given, fold.truth));
-        }
+        assert_eq!((whole.given, whole.truth), (fold.given, fold.truth));
     }
 }
 

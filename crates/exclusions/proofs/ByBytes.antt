@@ -1,10 +1,10 @@
 -- Lines digit by digit: a literal, a line's end, and the two behind each other.
 -- Assumes nothing.
-use mathlib.Core.Path.{_≡_, ap, _∙_}
+use mathlib.Core.Path.{_≡_}
 use mathlib.Core.List.{List, [], _∷_, _++_, append-assoc, append-nil}
 use Prim.Native.Nat.{ℕ, _+_, _≤_, _<_}
 use native.Mathlib.Omega.{arith}
-use lib.ListN.{length, length-append}
+use lib.ListN.{length}
 use Rattle.rules.specs.Limits.{maxN}
 use Rattle.rules.specs.Counting.{joined}
 use Rattle.rules.specs.Text.{lf, space, dash, digit0, decimal, literalText, clauseLine}
@@ -12,7 +12,7 @@ use Rattle.rules.proofs.Decimal.{decimal-few}
 use Rattle.digits.specs.Bound.{pastNumbers}
 use Rattle.digits.specs.Over.{over, Wrote}
 use Rattle.digits.proofs.Overs.{wrote-more}
-use Rattle.exclusions.specs.Exclusions.{exclusionText, minusText, endText, literalRoom, endRoom, pairRoom}
+use Rattle.exclusions.specs.Exclusions.{exclusionText, minusText, endText, literalRoom, pairRoom}
 
 module _ (m : ℕ) (few : m ≤ maxN) where
   pub digits-few : length (decimal m) ≤ 5

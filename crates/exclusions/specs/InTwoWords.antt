@@ -32,13 +32,26 @@ between = space ∷ dash ∷ []
 abbrev pub ending : List ℕ
 ending = space ∷ digit0 ∷ lf ∷ []
 
+-- the bytes of a line beside its digits; the most digits of a number; the least of q here, and the least number that has so many
+abbrev pub signs : ℕ
+signs = 6
+
+abbrev pub numberDigits : ℕ
+numberDigits = 5
+
+abbrev pub leastDigits : ℕ
+leastDigits = 3
+
+abbrev pub threeDigits : ℕ
+threeDigits = 100
+
 -- its beginning, to where q begins
 unfoldable pub headText : ℕ → List ℕ
 headText p = (dash ∷ decimal p) ++ between
 
 -- the last eight bytes, for q of three to five digits
 unfoldable pub tailText : ℕ → List ℕ
-tailText q = drop (length (decimal q) - 3) between ++ (decimal q ++ ending)
+tailText q = drop (length (decimal q) - leastDigits) between ++ (decimal q ++ ending)
 
 unfoldable pub headWord : ℕ → ℕ
 headWord p = inWord (headText p) 0

@@ -5,7 +5,6 @@ mod texts;
 mod words;
 
 use crate::rows::put_row;
-ghost use mathlib.Core.Path.{_≡_};
 ghost use Prim.Native.Nat.{suc, _+_, _*_, _≤_, _<_};
 ghost use lib.ListN.{length};
 ghost use Rattle.rules.specs.Limits.{maxN};

@@ -8,13 +8,13 @@ use crate::words::put_run;
 use crate::words::put_wide;
 use digits::digit_count;
 ghost use mathlib.Core.Path.{_≡_};
-ghost use Prim.Native.Nat.{suc, _+_, _-_, _*_, _%_, _≤_, min};
+ghost use Prim.Native.Nat.{suc, _+_, _-_, _*_, _%_, _≤_, _<_, min};
 ghost use lib.ListN.{length};
 ghost use Rattle.rules.specs.Limits.{maxN};
 ghost use Rattle.rules.specs.Text.{decimal};
 ghost use Rattle.digits.specs.Over.{Wrote};
 ghost use Rattle.exclusions.specs.Exclusions.{rowText, pairRoom};
-ghost use Rattle.exclusions.specs.InTwoWords.{tailWord, runText};
+ghost use Rattle.exclusions.specs.InTwoWords.{signs, numberDigits, threeDigits, tailWord, runText};
 
 const TEN: usize = 10;
 
@@ -37,7 +37,7 @@ fn run_of(m: usize, left: usize) -> usize
 
 // n lines whose second numbers, from m on, differ in the last digit only.
 fn put_ten(out: &mut [u8], at: usize, head: u64, beside: usize, m: usize, n: usize) -> usize
-    requires { ⌜ (7 ≤ beside) × (beside ≤ 11) × (100 ≤ m) × (m ≤ maxN) × (m % 10 + n ≤ 10) × (at + pairRoom * n ≤ length (now out)) ⌝ }
+    requires { ⌜ (signs < beside) × (beside ≤ signs + numberDigits) × (threeDigits ≤ m) × (m ≤ maxN) × (m % 10 + n ≤ 10) × (at + pairRoom * n ≤ length (now out)) ⌝ }
     ensures written { λ end. ⌜ Wrote (now (out .entry)) at (runText head (beside + length (decimal m)) (tailWord m) n) (now (out .exit)) end ⌝ }
     ensures within { λ end. ⌜ end ≤ at + pairRoom * n ⌝ }
 {
@@ -54,7 +54,7 @@ fn put_ten(out: &mut [u8], at: usize, head: u64, beside: usize, m: usize, n: usi
 
 // Ten lines a turn, from a number that ends in 0 to the next.
 fn put_tens(out: &mut [u8], at: usize, p: usize, q: usize, n: usize) -> usize
-    requires { ⌜ (p ≤ maxN) × (100 ≤ q) × (q + n ≤ suc maxN) × (at + pairRoom * n ≤ length (now out)) ⌝ }
+    requires { ⌜ (p ≤ maxN) × (threeDigits ≤ q) × (q + n ≤ suc maxN) × (at + pairRoom * n ≤ length (now out)) ⌝ }
     ensures written { λ end. ⌜ Wrote (now (out .entry)) at (rowText p q n) (now (out .exit)) end ⌝ }
     ensures within { λ end. ⌜ end ≤ at + pairRoom * n ⌝ }
 {

@@ -5,7 +5,7 @@ ghost use Prim.Native.Nat.{_≤_};
 ghost use lib.ListN.{length};
 ghost use Rattle.rules.specs.Limits.{maxN};
 ghost use Rattle.rules.specs.Text.{decimal};
-ghost use Rattle.exclusions.specs.InTwoWords.{headWord, tailWord};
+ghost use Rattle.exclusions.specs.InTwoWords.{threeDigits, headWord, tailWord};
 
 // The least numbers of four and of five digits.
 const FOUR_DIGITS: usize = 1000;
@@ -31,7 +31,7 @@ pub fn head_of(p: usize) -> u64
 
 // The word of its last eight bytes.
 pub fn tail_of(q: usize) -> u64
-    requires { ⌜ (100 ≤ q) × (q ≤ maxN) ⌝ }
+    requires { ⌜ (threeDigits ≤ q) × (q ≤ maxN) ⌝ }
     ensures { λ w. ⌜ w ≡ tailWord q ⌝ }
 {
     let word = word_of(q, ENDING);
@@ -46,7 +46,7 @@ pub fn tail_of(q: usize) -> u64
 
 // How many digits q has.
 pub fn digits_of(q: usize) -> usize
-    requires { ⌜ (100 ≤ q) × (q ≤ maxN) ⌝ }
+    requires { ⌜ (threeDigits ≤ q) × (q ≤ maxN) ⌝ }
     ensures { λ n. ⌜ n ≡ length (decimal q) ⌝ }
 {
     if FIVE_DIGITS <= q {

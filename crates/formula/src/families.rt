@@ -18,7 +18,7 @@ ghost use Rattle.formula.specs.InFamily.{familyCount, stepsOf, widthOf, 
 
 pub const FAMILIES: usize = 8;
 
-fn pairs_below(m: usize) -> usize
+pub fn pairs_below(m: usize) -> usize
     requires { ⌜ m ≤ maxActions ⌝ }
     ensures { λ r. ⌜ r ≡ pairsBelow m ⌝ }
 {

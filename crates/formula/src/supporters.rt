@@ -40,7 +40,7 @@ fn gives(file: &[u8], index: &[usize], a: usize, x: usize, v: usize, i: usize) -
 }
 
 // Whether action a has the effect x = v.
-pub fn is_given(file: &[u8], index: &[usize], a: usize, x: usize, v: usize) -> bool
+fn is_given(file: &[u8], index: &[usize], a: usize, x: usize, v: usize) -> bool
     requires { ⌜ Indexed (now file) (now index) × (a < actionCount (taskOf (now file))) ⌝ }
     ensures { λ r. ⌜ r ≡ isGiven (taskOf (now (file .entry))) a x v ⌝ }
 {

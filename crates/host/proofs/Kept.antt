@@ -5,8 +5,8 @@ use mathlib.Core.Logic.{⊎-elim}
 use mathlib.Core.Bool.{true, false}
 use mathlib.Core.List.{List, [], _∷_}
 use Prim.Native.Nat.{ℕ, min}
-use lib.Dec.{eqb, leb, ltb}
-use lib.ListN.{length, take}
+use lib.Dec.{eqb, ltb}
+use lib.ListN.{take}
 use Rattle.rules.specs.Text.{lf}
 use Rattle.rules.specs.Rows.{Rows}
 use Rattle.rules.specs.Families.{Literal}
@@ -19,7 +19,7 @@ use Rattle.rules.specs.declared.Reading.{Reading}
 use Rattle.rules.specs.declared.LineAnswer.{LineAnswer}
 use Rattle.rules.proofs.Bools.{either}
 use Rattle.output.specs.Line.{lent}
-use Rattle.output.specs.Feeding.{lineRoom, Fed, fedByte, feedByte, feedAll, feedCall, finished, finish, finishCall}
+use Rattle.output.specs.Feeding.{lineRoom, Fed, fedByte, feedByte, feedAll, hasRoom, feedCall, finished, finish, finishCall}
 use Rattle.host.specs.States.{readingOf}
 use Rattle.host.specs.Cells.{phaseLeft, highestLeft, fedSoFar}
 use Rattle.host.proofs.Crossing.{back-again}
@@ -74,7 +74,7 @@ module _ (highest phase : ℕ) where
   module _ (held : ℕ) (given isTrue line : List ℕ) where
     pub bytes-keep : (bytes : List ℕ) → Keeps highest (feedCall (fedSoFar highest phase held given isTrue line) bytes .progress .answer)
     unfolding feedCall fedSoFar
-    bytes-keep bytes = ⊎-elim (λ t. rw t (of-bytes highest _ refl bytes)) (λ t. rw t refl) (either (leb lineRoom (length line)))
+    bytes-keep bytes = ⊎-elim (λ t. rw t (of-bytes highest _ refl bytes)) (λ t. rw t refl) (either (hasRoom (fedSoFar highest phase held given isTrue line)))
 
     pub rest-keeps : Keeps highest (finishCall (fedSoFar highest phase held given isTrue line) .answer)
     unfolding finishCall finish fedSoFar
@@ -82,7 +82,7 @@ module _ (highest phase : ℕ) where
         ⊎-elim
         (λ t. rw t (of-end highest (LineAnswer.Next (readingOf highest phase)) refl (lent given isTrue) (min held lineRoom) line))
         (λ t. rw t refl)
-        (either (leb lineRoom (length line)))
+        (either (hasRoom (fedSoFar highest phase held given isTrue line)))
 
 -- so of an answer that keeps it, the number that was handed in and the phase that was written are the next reading state
 pub next-state : (highest found : ℕ) (line : LineAnswer) (reading : Reading) → Keeps highest line → line ≡ LineAnswer.Next reading

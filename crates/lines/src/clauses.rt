@@ -104,7 +104,7 @@ fn put_two_values(
 }
 
 // A precondition at a step.
-fn put_precondition(
+pub fn put_precondition(
     file: &[u8],
     index: &[usize],
     horizon: usize,
@@ -125,7 +125,7 @@ fn put_precondition(
 }
 
 // An effect at a step.
-fn put_effect(
+pub fn put_effect(
     file: &[u8],
     index: &[usize],
     horizon: usize,

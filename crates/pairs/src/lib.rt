@@ -11,7 +11,7 @@ pub struct RisingPair {
 }
 
 // How many pairs of numbers below m have a first number below i.
-fn pairs_before(m: usize, i: usize) -> usize
+pub fn pairs_before(m: usize, i: usize) -> usize
     requires { ⌜ (1 ≤ m) × (m ≤ mostNumbers) × (i ≤ m) ⌝ }
     ensures { λ p. ⌜ p ≡ pairsBefore m i ⌝ }
 {

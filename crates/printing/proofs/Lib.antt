@@ -1,2 +1,3 @@
 -- What is proved of the texts.
 pub mod Texts
+pub mod OneAnswer

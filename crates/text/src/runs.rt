@@ -1,5 +1,5 @@
 // Runs of whole lines.
-use parts::single::put_one;
+use parts::next::put_some;
 ghost use mathlib.Core.Path.{_≡_};
 ghost use Prim.Native.Nat.{_≤_};
 ghost use lib.ListN.{length};
@@ -33,7 +33,7 @@ pub fn put_run(
     let mut at = 0;
     let mut lines = 0;
     while c + lines < all {
-        let part = put_one(file, index, horizon, c + lines, out, at);
+        let part = put_some(file, index, horizon, c + lines, out, at);
         if part.lines == 0 {
             return Run { lines, bytes: at };
         }

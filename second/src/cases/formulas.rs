@@ -30,12 +30,29 @@ impl Maker {
         case.asked = self.random.weighted(&numbers);
     }
 
-    /// Any clause, those at the edges of the families, and those behind C.
+    /// The longest clause of the family that lists actions, at some step.
+    fn longest_clause(&mut self, formula: &Formula) -> Option<u64> {
+        const LISTING_ACTIONS: usize = 6;
+        let counts = formula.family_counts();
+        let before: u64 = counts[..LISTING_ACTIONS].iter().sum();
+        let at_a_step = counts[LISTING_ACTIONS].checked_div(formula.horizon)?;
+        let step = self.random.next_word() % formula.horizon;
+        let first = before + step * at_a_step;
+        let length = |&number: &u64| formula.clause(number).map(|clause| clause.len());
+        (first..first + at_a_step).max_by_key(length)
+    }
+
+    /// Any clause, those at the edges of the families, the longest, and those
+    /// behind C.
     fn clause_number(&mut self, formula: Option<&Formula>) -> u64 {
+        const LONGEST_ONCE_IN: usize = 8;
         let wide = self.wide();
         let Some(formula) = formula else {
             return self.random.pick(&[0, 1, wide]);
         };
+        if self.random.once_in(LONGEST_ONCE_IN) {
+            return self.longest_clause(formula).unwrap_or(0);
+        }
         let total = formula.counts().clauses;
         let families = self.random.below(FAMILIES + 1);
         let edge: u64 = formula.family_counts()[..families].iter().sum();

@@ -16,10 +16,11 @@ const ANY_PHASE: [u64; 5] = [NO_STATUS, SATISFIABLE_OPEN, CLOSED, UNSATISFIABLE,
 type Spoil = fn(&mut Maker, &mut Case, FormulaVariable);
 
 /// A reading that is not finished, not complete, or not a model.
-const SPOILS: [(usize, Spoil); 7] = [
+const SPOILS: [(usize, Spoil); 8] = [
     (2, Maker::other_phase),
     (4, Maker::take_variable),
     (6, Maker::turn_variable),
+    (6, Maker::swap_neighbours),
     (4, Maker::mark_unused),
     (1, Maker::other_highest),
     (1, Maker::shorten_given),
@@ -84,6 +85,9 @@ impl Maker {
 
     pub fn fill_output(&mut self, case: &mut Case) {
         const SECOND_STATUS_ONCE_IN: usize = 12;
+        if case.kind == Kind::Output {
+            case.asked = self.piece_bytes();
+        }
         let subject = self.subject();
         match subject.model() {
             Some(model) if self.random.coin() => {
@@ -99,6 +103,15 @@ impl Maker {
                 case.text = loose_output(&mut self.random, status, case.highest);
             }
         }
+    }
+
+    /// How many bytes of an output are fed at a time; 0 is all at once.
+    fn piece_bytes(&mut self) -> u64 {
+        const FEW: usize = 100;
+        const WHOLE_LINE: u64 = LONGEST_LINE as u64;
+        let few = self.random.between(2, FEW) as u64;
+        let wide = self.wide();
+        self.random.pick(&[0, 1, few, few, WHOLE_LINE, WHOLE_LINE + 1, wide])
     }
 
     pub fn fill_end(&mut self, case: &mut Case) {
@@ -138,6 +151,17 @@ impl Maker {
     fn turn_variable(&mut self, case: &mut Case, variable: FormulaVariable) {
         let value = bit(&case.truth, variable);
         set_bit(&mut case.truth, variable, !value);
+    }
+
+    /// Mostly another value of a state variable, or another action at a step.
+    fn swap_neighbours(&mut self, case: &mut Case, variable: FormulaVariable) {
+        let below = FormulaVariable(variable.0.max(2) - 1);
+        let above = FormulaVariable(below.0 + 1);
+        if above.0 <= case.truth.len() as u64 * WORD_BITS {
+            let (low, high) = (bit(&case.truth, below), bit(&case.truth, above));
+            set_bit(&mut case.truth, below, high);
+            set_bit(&mut case.truth, above, low);
+        }
     }
 
     /// Bits behind the last variable and words behind the last word.

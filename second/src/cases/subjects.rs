@@ -60,8 +60,10 @@ impl Maker {
 
     fn good_horizon(&mut self) -> usize {
         const SHORT: usize = 6;
-        let longest = if self.random.coin() { SHORT } else { MOST_HORIZON as usize };
-        self.random.between(0, longest)
+        const LONGEST: usize = MOST_HORIZON as usize;
+        let ranges = [(5, (0, SHORT)), (4, (0, LONGEST)), (1, (LONGEST, LONGEST))];
+        let (shortest, longest) = self.random.weighted(&ranges);
+        self.random.between(shortest, longest)
     }
 
     fn odd_horizon(&mut self, good: u64) -> u64 {

@@ -1,4 +1,4 @@
--- `exact::put_end` meets its contract.
+-- `exclusions::exact::put_end` meets its contract.
 -- Assumes nothing.
 use Rattle.exclusions.proofs.ByBytes.{end-written}
 use borrow.Author.Needs.{needs}

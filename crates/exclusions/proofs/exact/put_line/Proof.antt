@@ -1,4 +1,4 @@
--- `exact::put_line` meets its contract.
+-- `exclusions::exact::put_line` meets its contract.
 -- Assumes nothing.
 use Rattle.exclusions.proofs.ByBytes.{line-written, line-within}
 use borrow.Author.Needs.{needs}

@@ -1,4 +1,4 @@
--- `exact::put_minus` meets its contract.
+-- `exclusions::exact::put_minus` meets its contract.
 -- Assumes nothing.
 use Rattle.exclusions.proofs.ByBytes.{number-below, digits-room, space-room, minus-written, minus-within}
 use borrow.Author.Needs.{needs}

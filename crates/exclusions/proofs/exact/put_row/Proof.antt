@@ -1,4 +1,4 @@
--- `exact::put_row` meets its contract. The loop's invariant: i lines of the row are written.
+-- `exclusions::exact::put_row` meets its contract. The loop's invariant: i lines of the row are written.
 -- Assumes nothing.
 use Prim.Native.Nat.{_-_}
 use Rattle.exclusions.proofs.Rowing.{RowPut, row-start, row-line, line-room, row-end, row-within}

@@ -1,4 +1,4 @@
--- `texts::digits_of` meets its contract.
+-- `exclusions::texts::digits_of` meets its contract.
 -- Assumes nothing.
 use Rattle.exclusions.proofs.HeadTail.{five-digits, four-digits, three-digits}
 use borrow.Author.Needs.{needs}

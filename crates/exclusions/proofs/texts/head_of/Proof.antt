@@ -1,4 +1,4 @@
--- `texts::head_of` meets its contract.
+-- `exclusions::texts::head_of` meets its contract.
 -- Assumes nothing.
 use Rattle.exclusions.proofs.HeadTail.{head-fits, head-times, head-sum, head-made}
 use borrow.Author.Needs.{needs}

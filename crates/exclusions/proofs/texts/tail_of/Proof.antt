@@ -1,4 +1,4 @@
--- `texts::tail_of` meets its contract.
+-- `exclusions::texts::tail_of` meets its contract.
 -- Assumes nothing.
 use Rattle.exclusions.proofs.HeadTail.{tail-fits, tail-times4, tail-sum4, tail-times3, tail-sum3, tail-made5, tail-made4, tail-made3}
 use borrow.Author.Needs.{needs}

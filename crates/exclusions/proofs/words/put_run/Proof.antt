@@ -1,4 +1,4 @@
--- `words::put_run` meets its contract. The loop's invariant: i lines of the run are written, and the tail of the next is at hand.
+-- `exclusions::words::put_run` meets its contract. The loop's invariant: i lines of the run are written, and the tail of the next is at hand.
 -- Assumes nothing.
 use Prim.Native.Nat.{_-_}
 use Rattle.exclusions.proofs.ByWords.{Running, running-start, running-more, running-room, running-fits, running-end, running-within}

@@ -1,4 +1,4 @@
--- `words::put_words` meets its contract.
+-- `exclusions::words::put_words` meets its contract.
 -- Assumes nothing.
 use Rattle.exclusions.proofs.ByWords.{words-written}
 use borrow.Author.Needs.{needs}

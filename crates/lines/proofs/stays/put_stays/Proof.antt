@@ -1,6 +1,5 @@
 -- `stays::put_stays` meets its contract.
 -- Assumes nothing.
-use Rattle.lines.proofs.ByPlace.{stays-line}
 use borrow.Author.Needs.{needs}
 use Rattle.lines.proofs.stays.put_stays.Statement.{statement}
 use Rattle.lines.proofs.stays.put_stays.Tie as tie
@@ -11,9 +10,7 @@ put-stays-spec =
     (tie.spec
     (λ c. search needs)
     (λ c κs. search needs)
-    (λ c κs. search needs)
-    (λ c κs. search needs)
-    (λ c κs. search needs)
+    (λ c. search needs)
     (λ c κs. search needs)
     (λ c. search needs)
-    (λ c. (search (needs, stays-line), search needs)))
+    (λ c. search needs))

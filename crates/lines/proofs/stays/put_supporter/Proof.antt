@@ -9,7 +9,8 @@ pub put-supporter-spec : {M : Type 1} → statement M
 put-supporter-spec =
     tie.close
     (tie.spec
-    (λ c κs. search needs)
+    (λ c. search needs)
+    (λ c. search needs)
     (λ c κs. search needs)
     (λ c κs. search needs)
     (λ c. search needs)

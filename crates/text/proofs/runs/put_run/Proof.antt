@@ -25,7 +25,7 @@ put-run-spec =
     (λ c. search needs)
     (λ c.
     let r = c .before .before .before .before .before .before .before .loop .inv in
-    let p = c .before .before .before .before .put-one .ensures .0 in
+    let p = c .before .before .before .before .put-some .ensures in
     (search (needs, stopped-out), (stopped-lines _ _ _ _ _ _ _ _ r _ _ _ p (c .if1 .taken), stopped-bytes _ _ _ _ _ _ _ _ r _ _ _ p (c .if1 .taken))))
     (λ c. search needs)
     (λ c. search needs)

@@ -1,0 +1,3 @@
+-- Laws that the program's proofs cite.
+mod Laws
+mod Literals
