@@ -1,5 +1,5 @@
--- Any two answers that a promise allows are equal, lent memory after the call included. The one exception is `place_of`: it promises a place
--- at which clause c stands, and two places may have the same clause (a start value and all values of a variable that has one).
+-- Any two answers that a promise allows are equal, lent memory after the call included. Not proved so is `place_of`: it promises a place in
+-- range whose number is c and at which clause c stands, but that no two places have one number is not proved.
 -- Assumes nothing.
 use mathlib.Core.Path.{_≡_, sym, _∙_}
 use Prim.Native.Nat.{ℕ}

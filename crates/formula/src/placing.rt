@@ -30,7 +30,7 @@ pub struct Rank {
 }
 
 // The family of clause c.
-pub fn family_of(file: &[u8], index: &[usize], horizon: usize, c: usize) -> Rank
+fn family_of(file: &[u8], index: &[usize], horizon: usize, c: usize) -> Rank
     requires { ⌜ Indexed (now file) (now index) × (horizon ≤ maxHorizon) × (c < C (problemOf (now file) horizon)) ⌝ }
     ensures { λ r. ⌜ (r .family < familyCount) × (r .before < countOf (taskOf (now (file .entry))) horizon (r .family))
         × (clausesBefore (taskOf (now (file .entry))) horizon (r .family) + r .before ≡ c) ⌝ }

@@ -1,25 +1,23 @@
 -- The line of a clause at a place is the line of its numbers.
 -- Assumes nothing.
-use mathlib.Core.Path.{_≡_, refl, sym, ap, _∙_}
+use mathlib.Core.Path.{_≡_, refl, _∙_}
 use mathlib.Core.List.{List, [], _∷_, _++_}
-use Prim.Native.Nat.{ℕ, suc, _+_, _*_, _≤_, _<_}
+use Prim.Native.Nat.{ℕ, _+_, _*_, _≤_, _<_}
 use native.Mathlib.Omega.{arith}
 use native.Mathlib.Numerals.{add-one}
 use lib.ListN.{length}
 use Rattle.rules.specs.Limits.{maxDomain}
 use Rattle.rules.specs.Counting.{forEach}
 use Rattle.rules.specs.Problem.{Problem, problem}
-use Rattle.rules.specs.Task.{Task, n, d, A, startValue, pair, action}
+use Rattle.rules.specs.Task.{Task, n, d, startValue, pair, action}
 use Rattle.rules.specs.Numbering.{valueNumber, actionNumber}
 use Rattle.rules.specs.Families.{plus, minus, supporters}
 use Rattle.rules.specs.Text.{clauseLine}
 use Rattle.rules.specs.File.{taskOf}
-use Rattle.rules.proofs.Valid.{WellFormed}
 use Rattle.rules.proofs.Files.{accepted-well-formed}
 use Rattle.task.specs.Index.{Indexed}
 use Rattle.formula.specs.declared.place.Place.{Place}
 use Rattle.formula.specs.declared.place.Place.the-variants.{Start, Goal, AllValues, TwoValues, Precondition, Effect, Stays, TwoActions}
-use Rattle.formula.specs.Placed.{clauseAt}
 use Rattle.formula.specs.Front.{valuesTo}
 use Rattle.digits.specs.Over.{Wrote}
 use Rattle.lines.specs.Written.{literals, lineEnd, literalRoom, endRoom, lineRoom}

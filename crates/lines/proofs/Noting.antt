@@ -1,22 +1,22 @@
 -- The value that an action gives a variable: found, noted, and what it says of a supporter.
 -- Assumes nothing.
-use mathlib.Core.Path.{_≡_, refl, sym, ap, _∙_}
+use mathlib.Core.Path.{_≡_, sym, ap, _∙_}
 use mathlib.Core.Logic.{⊎-elim}
-use mathlib.Core.Bool.{Bool, true, false, cond, _&&_}
+use mathlib.Core.Bool.{Bool, true, false, _&&_}
 use mathlib.Core.List.{List}
 use Prim.Native.Nat.{ℕ, _+_, _≤_, _<_}
 use native.Mathlib.Omega.{arith}
 use native.Mathlib.Numerals.{add-one}
 use borrow.Author.Tests.{eq-eqb, ne-eqb, eqb-true, lt-ltb, le-ltb}
-use lib.Dec.{eqb, ltb}
-use lib.ListN.{length, getD, set, length-set}
+use lib.Dec.{eqb}
+use lib.ListN.{length, set, length-set}
 use lib.Seq.{getD-set-same, getD-set-other}
-use Rattle.rules.specs.Limits.{maxActions, maxDomain}
-use Rattle.rules.specs.Counting.{first, any}
+use Rattle.rules.specs.Limits.{maxActions}
+use Rattle.rules.specs.Counting.{first}
 use Rattle.rules.specs.Task.{Task, Pair, n, d, A, pair, action}
 use Rattle.rules.specs.File.{taskOf}
-use Rattle.rules.proofs.Bools.{either, clash, below-or, below-suc, and-left, and-right, and-both}
-use Rattle.rules.proofs.Counting.{any-at, any-where, first-le, first-at, first-before, first-is}
+use Rattle.rules.proofs.Bools.{either, below-or, below-suc, and-left, and-right, and-both}
+use Rattle.rules.proofs.Counting.{any-at, any-where, first-at, first-is}
 use Rattle.rules.proofs.Loops.{found-at}
 use Rattle.rules.proofs.Valid.{WellFormed}
 use Rattle.rules.proofs.Moves.{pairs-apart}

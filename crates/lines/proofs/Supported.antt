@@ -1,9 +1,9 @@
 -- The literals of the actions that give a value.
 -- Assumes nothing.
-use mathlib.Core.Path.{_≡_, refl, sym, ap, _∙_}
+use mathlib.Core.Path.{_≡_, refl, sym, _∙_}
 use mathlib.Core.Bool.{true, false}
 use mathlib.Core.List.{List, [], _∷_, _++_}
-use Prim.Native.Nat.{ℕ, suc, _+_, _*_, _≤_, _<_}
+use Prim.Native.Nat.{ℕ, _+_, _*_, _≤_, _<_}
 use native.Mathlib.Omega.{arith}
 use native.Mathlib.Numerals.{add-one}
 use lib.ListN.{length, getD}
@@ -14,7 +14,6 @@ use Rattle.rules.specs.Task.{n, d, A}
 use Rattle.rules.specs.Numbering.{actionNumber}
 use Rattle.rules.specs.Families.{plus, supporters}
 use Rattle.rules.specs.File.{taskOf}
-use Rattle.rules.proofs.Valid.{WellFormed}
 use Rattle.rules.proofs.Files.{accepted-well-formed}
 use Rattle.task.specs.Index.{Indexed}
 use Rattle.formula.specs.Front.{isGiven, supporter, supportersTo}

@@ -7,8 +7,8 @@ use native.Mathlib.Omega.{arith}
 use lib.ListN.{length}
 use mir.Syntax.{w64}
 use mir.Val.{Fits}
-use Rattle.rules.specs.Limits.{maxHorizon, maxActions, maxDomain, maxN}
-use Rattle.rules.specs.Counting.{forEach, sumTo}
+use Rattle.rules.specs.Limits.{maxHorizon, maxActions, maxN}
+use Rattle.rules.specs.Counting.{sumTo}
 use Rattle.rules.specs.Counts.{pairsBelow, pairsBefore}
 use Rattle.rules.specs.Task.{Task, n, d, A}
 use Rattle.rules.specs.Problem.{Problem, problem}
@@ -20,16 +20,15 @@ use Rattle.rules.specs.Calls.{problemOf}
 use Rattle.rules.proofs.Counting.{forEach-ext}
 use Rattle.rules.proofs.Pairs.{PairAt, pair-exists, pair-within}
 use Rattle.rules.proofs.Places.{within-rows, within-steps}
-use Rattle.rules.proofs.ByNumber.{clausesBefore, starts, Starts, clause4, clause8}
+use Rattle.rules.proofs.ByNumber.{clausesBefore, starts, clause4, clause8}
 use Rattle.rules.proofs.Numbering.{value-number-within, action-number-within}
 use Rattle.rules.proofs.Bounds.{N-bound}
 use Rattle.rules.proofs.Valid.{WellFormed}
 use Rattle.rules.proofs.Files.{accepted-well-formed}
 use Rattle.task.specs.Index.{Indexed, valuePairsBefore}
 use Rattle.digits.specs.Over.{Wrote}
-use Rattle.formula.specs.declared.place.Place.{Place}
 use Rattle.formula.specs.declared.place.Place.the-variants.{TwoValues, TwoActions}
-use Rattle.formula.specs.InFamily.{widthOf, stepsOf, numberIn, placeNumber}
+use Rattle.formula.specs.InFamily.{widthOf, numberIn, placeNumber}
 use Rattle.formula.proofs.Counted.{pairs-fit}
 use Rattle.exclusions.specs.Exclusions.{exclusionText, exclusionLine, exclusionLines, numberOfPair, pairRoom}
 use Rattle.exclusions.proofs.ByPair.{pair-line}

@@ -1,14 +1,14 @@
 -- Lines of places that follow each other, one after the other.
 -- Assumes nothing.
-use mathlib.Core.Path.{_≡_, refl, sym, ap, _∙_}
-use mathlib.Core.List.{List, [], _∷_, _++_}
-use Prim.Native.Nat.{ℕ, suc, _+_, _-_, _*_, _/_, _≤_, _<_, min}
+use mathlib.Core.Path.{_≡_, refl, ap, _∙_}
+use mathlib.Core.List.{List}
+use Prim.Native.Nat.{ℕ, _+_, _-_, _*_, _≤_, _<_}
 use native.Mathlib.Omega.{arith}
 use native.Mathlib.Numerals.{add-one}
 use lib.ListN.{length}
 use mir.Syntax.{w64}
 use mir.Val.{Fits}
-use Rattle.rules.specs.Limits.{maxHorizon, maxActions, maxPairs}
+use Rattle.rules.specs.Limits.{maxActions}
 use Rattle.rules.specs.Counting.{forEach, sumTo}
 use Rattle.rules.specs.Task.{Task, n, d, off, S, A, action}
 use Rattle.rules.specs.Problem.{Problem, problem}
@@ -18,15 +18,14 @@ use Rattle.rules.specs.File.{taskOf}
 use Rattle.rules.specs.Calls.{problemOf}
 use Rattle.rules.proofs.Counting.{forEach-ext}
 use Rattle.rules.proofs.Places.{within-steps}
-use Rattle.rules.proofs.ByNumber.{clausesBefore, starts, Starts, clause5, clause6, clause7}
-use Rattle.rules.proofs.Valid.{WellFormed}
+use Rattle.rules.proofs.ByNumber.{clausesBefore, starts, clause5, clause6, clause7}
 use Rattle.rules.proofs.Files.{accepted-well-formed}
 use Rattle.task.specs.Index.{Indexed, preconditionsBefore, effectsBefore}
 use Rattle.digits.specs.Over.{Wrote}
 use Rattle.digits.proofs.Overs.{wrote-nothing, wrote-more}
 use Rattle.formula.specs.declared.place.Place.{Place}
 use Rattle.formula.specs.declared.place.Place.the-variants.{Precondition, Effect, Stays}
-use Rattle.formula.specs.InFamily.{InRange, widthOf, numberIn, placeNumber}
+use Rattle.formula.specs.InFamily.{widthOf, numberIn, placeNumber}
 use Rattle.lines.specs.Written.{lineRoom}
 use Rattle.lines.specs.AtPlace.{placeLine, RoomFor}
 use Rattle.parts.specs.Runs.{run, PutPart, fewest}

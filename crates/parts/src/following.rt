@@ -11,7 +11,7 @@ use task::index::effects_before;
 use task::index::preconditions_before;
 use task::limits::MAX_ACTIONS;
 ghost use mathlib.Core.Path.{_≡_};
-ghost use Prim.Native.Nat.{_+_, _-_, _*_, _≤_, _<_};
+ghost use Prim.Native.Nat.{_+_, _-_, _≤_, _<_};
 ghost use lib.ListN.{length};
 ghost use Rattle.rules.specs.Limits.{maxHorizon};
 ghost use Rattle.rules.specs.Task.{A as actionCount, action};

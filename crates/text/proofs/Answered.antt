@@ -2,8 +2,8 @@
 -- Assumes nothing.
 use mathlib.Core.Path.{_≡_, refl, sym, ap, _∙_}
 use mathlib.Core.Logic.{⊎-elim}
-use mathlib.Core.List.{List, [], _∷_, _++_}
-use Prim.Native.Nat.{ℕ, _+_, _-_, _≤_, _<_}
+use mathlib.Core.List.{List, [], _∷_}
+use Prim.Native.Nat.{ℕ, _-_, _≤_, _<_}
 use native.Mathlib.Omega.{arith}
 use native.Mathlib.Nat.{zero-add}
 use borrow.Author.Tests.{le-leb, lt-leb, leb-true, lt-ltb, le-ltb, ltb-true}
@@ -26,7 +26,7 @@ use Rattle.task.specs.Index.{Indexed}
 use Rattle.digits.specs.Over.{over, Wrote}
 use Rattle.digits.proofs.Overs.{over-front, over-none}
 use Rattle.task.proofs.Stated.{problem-right}
-use Rattle.parts.specs.Runs.{run, PutPart}
+use Rattle.parts.specs.Runs.{PutPart}
 use Rattle.parts.proofs.OneLine.{made-first, one-line, no-line}
 use Rattle.text.specs.declared.calls.TextAnswer.the-variants as text
 use Rattle.text.specs.Said.{answered, headerAnswer, clauseLineAnswer, linesAnswer}

@@ -1,8 +1,8 @@
 -- Demand 2, first sentence, of text: the header and over all c below C the lines that `clause_line` writes are the formula's text, in order; so are
 -- the header and what calls of `lines` write, each beginning behind the lines of the one before, whatever room each is lent that takes a line.
 -- Assumes nothing.
-use mathlib.Core.Path.{_≡_, refl, sym, ap, _∙_}
-use mathlib.Core.List.{List, [], _∷_, _++_, map}
+use mathlib.Core.Path.{_≡_, sym, ap, _∙_}
+use mathlib.Core.List.{List, [], _++_}
 use Prim.Native.Nat.{ℕ, zero, suc, _+_, _≤_, _<_}
 use native.Mathlib.Omega.{arith}
 use native.Mathlib.Nat.{zero-add}

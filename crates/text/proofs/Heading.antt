@@ -1,8 +1,8 @@
 -- The header: its start byte by byte, and its two counts.
 -- Assumes nothing.
-use mathlib.Core.Path.{_≡_, refl, sym, ap, _∙_}
+use mathlib.Core.Path.{_≡_}
 use mathlib.Core.List.{List, [], _∷_, _++_, append-assoc}
-use Prim.Native.Nat.{ℕ, suc, _+_, _≤_, _<_}
+use Prim.Native.Nat.{ℕ, _+_, _≤_, _<_}
 use native.Mathlib.Omega.{arith}
 use lib.ListN.{length, take}
 use Rattle.rules.specs.Limits.{maxHorizon, maxN, maxC}
@@ -10,7 +10,6 @@ use Rattle.rules.specs.Numbering.{N}
 use Rattle.rules.specs.Families.{C}
 use Rattle.rules.specs.Text.{ascii, lf, space, decimal, headerLine}
 use Rattle.rules.specs.File.{taskOf}
-use Rattle.rules.specs.Problem.{problem}
 use Rattle.rules.specs.Calls.{problemOf}
 use Rattle.rules.proofs.Decimal.{decimal-few}
 use Rattle.rules.proofs.Bounds.{N-bound, C-bound}

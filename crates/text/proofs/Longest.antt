@@ -1,12 +1,11 @@
 -- The longest run of lines that fits is the run whose next line does not fit.
 -- Assumes nothing.
-use mathlib.Core.Path.{_≡_, refl, sym, ap, _∙_}
+use mathlib.Core.Path.{_≡_, refl, ap, _∙_}
 use mathlib.Core.Logic.{⊎-elim}
 use mathlib.Core.List.{List, [], _∷_, _++_, append-assoc, append-nil}
 use Prim.Native.Nat.{ℕ, zero, suc, _+_, _-_, _≤_, _<_}
 use native.Mathlib.Omega.{arith}
 use borrow.Author.Tests.{le-leb, lt-leb}
-use lib.Dec.{leb}
 use lib.ListN.{length, getD, take, drop, length-append, length-map, length-take, length-drop, List·getD-map}
 use lib.Seq.{take-suc, getD-drop, drop-cons}
 use Rattle.rules.specs.Counting.{forEach, joined}

@@ -2,15 +2,14 @@
 -- Assumes nothing.
 use mathlib.Core.Path.{_≡_, refl, sym, ap, _∙_}
 use mathlib.Core.Logic.{⊎-elim}
-use mathlib.Core.List.{List, [], _∷_, _++_}
-use Prim.Native.Nat.{ℕ, zero, suc, _+_, _-_, _≤_, _<_}
+use mathlib.Core.List.{List, [], _∷_}
+use Prim.Native.Nat.{ℕ, _+_, _-_, _≤_}
 use native.Mathlib.Omega.{arith}
 use borrow.Author.Tests.{le-leb, lt-leb}
-use lib.Dec.{leb}
 use lib.ListN.{length, take, drop, length-append, length-take}
 use Rattle.rules.specs.Counting.{joined}
-use Rattle.rules.specs.Families.{C, clause}
-use Rattle.rules.specs.Text.{headerLine, clauseLine, clauseLines}
+use Rattle.rules.specs.Families.{C}
+use Rattle.rules.specs.Text.{headerLine, clauseLines}
 use Rattle.rules.specs.Calls.{problemOf, headerVerdict, clauseLineVerdict, fitting, linesFrom}
 use Rattle.rules.specs.declared.Verdict.{Verdict}
 use Rattle.rules.specs.declared.Verdict.the-variants.{Accepted, Refused}
