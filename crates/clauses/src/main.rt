@@ -1,6 +1,5 @@
 // The clause program: a horizon byte, then a task file, on standard input; the formula's text, or one line `refused N D`, on standard output.
 // All that it does here is to move bytes: `text` and `printing` promise which.
-use task::problem::problem_verdict;
 use formula::families::count_clauses;
 use libc::STDIN_FILENO;
 use libc::STDOUT_FILENO;
@@ -10,6 +9,7 @@ use reader::limits::MAX_FILE;
 use rules::Verdict;
 use task::filling::fill_index;
 use task::index::INDEX_LENGTH;
+use task::problem::problem_verdict;
 use text::calls::TextAnswer;
 use text::calls::header_indexed;
 use text::calls::lines_indexed;

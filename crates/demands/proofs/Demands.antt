@@ -13,12 +13,11 @@ use contract.Lifetimes.{Lfts}
 use denote.Ref.{now}
 use denote.Triple.Clauses.{AtExit}
 use Rattle.rules.specs.Counting.{table, joined}
-use Rattle.rules.specs.Limits.{maxLiterals}
 use Rattle.rules.specs.Task.{S, A}
 use Rattle.rules.specs.File.{taskOf}
 use Rattle.rules.specs.Problem.{Problem}
 use Rattle.rules.specs.Numbering.{N}
-use Rattle.rules.specs.Families.{signed, family1, family2, family3, family4, family5, family6, family7, family8, formula, C}
+use Rattle.rules.specs.Families.{signed, family1, family2, family3, family4, family5, family6, family7, family8, formula, C, clause}
 use Rattle.rules.specs.Counts.{sum, countTable}
 use Rattle.rules.specs.Rows.{Rows, bitOfVariable}
 use Rattle.rules.specs.Truth.{Complete, satisfies, modelIn}
@@ -112,8 +111,8 @@ module _ (file : List ℕ) (k : ℕ) where
   -- Demand 2: the formula is exactly the eight families, in the stated order, with true counts; a complete model is accepted exactly if it makes
   -- every clause true, and becomes the schedule it states; a schedule becomes a model exactly if its moves can be carried out and reach the goal
   pub record Demand2 : Type 1 where
-    pub families : (room after : ℕ → List ℤ) (answer : ℕ → LiteralsAnswer) → ((c : ℕ) → maxLiterals ≤ length (room c))
-        → ((c : ℕ) → Spelled file k c (room c) (answer c) (after c))
+    pub families : (room after : ℕ → List ℤ) (answer : ℕ → LiteralsAnswer) → ((c : ℕ) → c < C P → length (clause P c) ≤ length (room c))
+        → ((c : ℕ) → c < C P → Spelled file k c (room c) (answer c) (after c))
         → table (C P) (λ c. wordsOf (answer c) (after c))
         ≡ map (map signed) (joined (family1 P ∷ family2 P ∷ family3 P ∷ family4 P ∷ family5 P ∷ family6 P ∷ family7 P ∷ family8 P ∷ []))
     pub counted : (answer : CountsAnswer) → Counted file k answer

@@ -152,7 +152,7 @@ module _ (file : List ℕ) (fine : fileVerdict file ≡ Accepted) (k : ℕ) (sma
   demand2 =
       record {
         families = λ room after answer enough e.
-            the-formula file k stated room after answer enough (λ c. spelled-is file k c (room c) (answer c) (after c) (e c)) ∙ ap (map (map signed)) in-order;
+            the-formula file k stated room after answer enough (λ c h. spelled-is file k c (room c) (answer c) (after c) (e c h)) ∙ ap (map (map signed)) in-order;
         counted = λ answer e. counted-is file k answer e ∙ the-counts file k stated ∙ true-counts;
         model = λ rows entries after verdict e enough c.
             let same = ended-verdict file k ModelClosed rows entries verdict after e in

@@ -26,6 +26,10 @@ use Rattle.text.proofs.Longest.{run-taken, some-fit, lines-most}
 use Rattle.text.proofs.Running.{run-append}
 use Rattle.text.proofs.Answered.{header-fits, line-fits}
 use Rattle.text.proofs.Taken.{linesOf}
+use denote.Ref.{now}
+use Rattle.text.proofs.calls.header.Reads as header
+use Rattle.text.proofs.calls.clause_line.Reads as clause-line
+use Rattle.text.proofs.calls.lines.Reads as lines
 use Rattle.text.proofs.Room.{line-most}
 
 -- the bytes that an answer says were written
@@ -42,6 +46,18 @@ LinePromised file k c lent r left = (r ≡ clauseLineAnswer file k c (length len
 
 abbrev pub LinesPromised : (file : List ℕ) (k c : ℕ) (lent : List ℕ) → TextAnswer → (left : List ℕ) → Type 0
 LinesPromised file k c lent r left = (r ≡ linesAnswer file k c (length lent)) × (left ≡ linesAfter file k c lent)
+
+-- and so they are
+pub header-promises : (κs : _) (a : _) (r : TextAnswer) (x : _) → header.Post κs a r x → HeaderPromised (now (a .0)) (a .1 .0) (now (a .1 .1 .0)) r (now (x .1 .1 .0))
+header-promises κs a r x p = p
+
+pub line-promises : (κs : _) (a : _) (r : TextAnswer) (x : _) → clause-line.Post κs a r x
+    → LinePromised (now (a .0)) (a .1 .0) (a .1 .1 .0) (now (a .1 .1 .1 .0)) r (now (x .1 .1 .1 .0))
+line-promises κs a r x p = p
+
+pub lines-promise : (κs : _) (a : _) (r : TextAnswer) (x : _) → lines.Post κs a r x
+    → LinesPromised (now (a .0)) (a .1 .0) (a .1 .1 .0) (now (a .1 .1 .1 .0)) r (now (x .1 .1 .1 .0))
+lines-promise κs a r x p = p
 
 -- an accepted call's text stands in front of the room
 written-first : (v : Verdict) (lines : ℕ) (made lent : List ℕ) → v ≡ Accepted → textOf (answered v lines (length made)) (lentAfter v made lent) ≡ made

@@ -2,7 +2,6 @@
 use crate::header::HEADER_ROOM;
 use crate::header::put_header;
 use crate::runs::put_run;
-use task::problem::problem_verdict;
 use formula::families::count_clauses;
 use parts::single::copy;
 use parts::single::put_one;
@@ -10,6 +9,7 @@ use rules::Refusal;
 use rules::Verdict;
 use task::filling::fill_index;
 use task::index::INDEX_LENGTH;
+use task::problem::problem_verdict;
 ghost use mathlib.Core.Path.{_≡_};
 ghost use Prim.Native.Nat.{_≤_};
 ghost use lib.ListN.{length};

@@ -2,8 +2,8 @@
 use digits::put;
 use digits::put_byte;
 use formula::families::count_clauses;
-use task::problem::count_variables;
 use parts::single::copy;
+use task::problem::count_variables;
 ghost use mathlib.Core.Path.{_≡_};
 ghost use mathlib.Core.List.{[], _∷_, _++_};
 ghost use Prim.Native.Nat.{_+_, _≤_};
