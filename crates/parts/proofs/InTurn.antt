@@ -28,7 +28,7 @@ use Rattle.formula.specs.declared.place.Place.the-variants.{Precondition, Effec
 use Rattle.formula.specs.InFamily.{widthOf, numberIn, placeNumber}
 use Rattle.lines.specs.Written.{lineRoom}
 use Rattle.lines.specs.AtPlace.{placeLine, RoomFor}
-use Rattle.parts.specs.Runs.{run, PutPart, fewest}
+use Rattle.parts.specs.Runs.{run, PutPart}
 
 -- ---- any places
 
@@ -43,55 +43,50 @@ abbrev pub effectFrom : (s a i : ℕ) → ℕ → Place
 effectFrom s a i r = Effect s a (i + r)
 
 -- the lines of the first places are written
-pub record LinesPut (file : List ℕ) (k : ℕ) (places : ℕ → Place) (room : List ℕ) (at most lines : ℕ) (now : List ℕ) (end : ℕ) : Type 0 where
+pub record LinesPut (file : List ℕ) (k : ℕ) (places : ℕ → Place) (room : List ℕ) (at left lines : ℕ) (now : List ℕ) (end : ℕ) : Type 0 where
   pub so-far : Wrote room at (forEach lines (λ r. placeLine file k (places r))) now end
   pub kept : length now ≡ length room
   pub few : end ≤ at + lines * lineRoom
-  pub upTo : lines ≤ most
-  pub fits : at + most * lineRoom ≤ length room
+  pub upTo : lines ≤ left
+  pub within : end ≤ length room
 
-pub lines-start : (file : List ℕ) (k : ℕ) (places : ℕ → Place) (room : List ℕ) (at most left : ℕ) → at + lineRoom ≤ length room → most ≡ fewest left (length room - at)
-    → LinesPut file k places room at most 0 room at
+pub lines-start : (file : List ℕ) (k : ℕ) (places : ℕ → Place) (room : List ℕ) (at left : ℕ) → at + lineRoom ≤ length room → LinesPut file k places room at left 0 room at
 unfolding forEach
-lines-start file k places room at most left h e =
-    record { so-far = wrote-nothing room at; kept = refl; few = omega arith; upTo = omega arith; fits = omega arith }
+lines-start file k places room at left h =
+    record { so-far = wrote-nothing room at; kept = refl; few = omega arith; upTo = omega arith; within = omega arith }
 
-module _ (file : List ℕ) (k : ℕ) (places : ℕ → Place) (room : List ℕ) (at most lines : ℕ) (now : List ℕ) (end : ℕ) (p : LinesPut file k places room at most lines now end) where
-  pub line-room : lines < most → end + lineRoom ≤ length now
-  line-room h = omega (arith, p .few, p .fits, p .kept)
+module _ (file : List ℕ) (k : ℕ) (places : ℕ → Place) (room : List ℕ) (at left lines : ℕ) (now : List ℕ) (end : ℕ) (p : LinesPut file k places room at left lines now end) where
+  pub end-inside : end ≤ length now
+  end-inside = omega (arith, p .within, p .kept)
 
-  pub lines-more : (next : List ℕ) (behind : ℕ) → lines < most → Wrote now end (placeLine file k (places lines)) next behind → behind ≤ end + lineRoom
-      → length next ≡ length now → LinesPut file k places room at most (lines + 1) next behind
+  pub lines-more : (next : List ℕ) (behind : ℕ) → lines < left → lineRoom ≤ length now - end → Wrote now end (placeLine file k (places lines)) next behind
+      → behind ≤ end + lineRoom → length next ≡ length now → LinesPut file k places room at left (lines + 1) next behind
   unfolding forEach
-  lines-more next behind h w l kept =
+  lines-more next behind h enough w l kept =
       rw (add-one lines)
       (record {
         so-far = wrote-more room now next at end behind (forEach lines (λ r. placeLine file k (places r))) (placeLine file k (places lines)) (p .so-far) w;
         kept = kept ∙ p .kept;
         few = omega (arith, p .few);
         upTo = omega arith;
-        fits = p .fits;
+        within = omega (arith, p .kept);
       })
 
+  -- where the room ends, some were written
+  pub some-lines : length now - end < lineRoom → at + lineRoom ≤ length room → 1 ≤ lines
+  some-lines short h = omega (arith, p .few, p .kept)
+
   -- all of them are a part of a run, where each line is that of its clause
-  lines-part : (c left : ℕ) → ((r : ℕ) → r < lines → clauseLine (clause (problemOf file k) (c + r)) ≡ placeLine file k (places r))
-      → c + lines ≤ C (problemOf file k) → 1 ≤ lines → PutPart file k c room at lines now end
+  lines-part : (c : ℕ) → ((r : ℕ) → r < lines → clauseLine (clause (problemOf file k) (c + r)) ≡ placeLine file k (places r)) → c + lines ≤ C (problemOf file k)
+      → 1 ≤ lines → PutPart file k c room at lines now end
   unfolding run
-  lines-part c left each upTo some =
+  lines-part c each upTo some =
       record {
         wrote = rw (forEach-ext lines (λ r. clauseLine (clause (problemOf file k) (c + r))) (λ r. placeLine file k (places r)) each) (p .so-far);
         upTo = upTo;
-        within = omega (arith, p .few, p .upTo, p .fits);
+        within = p .within;
         none = λ z. absurd (omega arith);
       }
-
--- how many: some, and none behind the last
-module _ (left room most lines : ℕ) (e : most ≡ fewest left room) (all : most ≤ lines) (upTo : lines ≤ most) where
-  some-lines : 1 ≤ left → lineRoom ≤ room → 1 ≤ lines
-  some-lines h l = omega arith
-
-  lines-left : lines ≤ left
-  lines-left = omega arith
 
 -- a part that ends with a row of a step or before ends with its family or before
 within-family : (before rows row q lines w all c : ℕ) → 1 ≤ lines → rows + (row + (q + lines - 1)) < all → before + all ≤ c → before + (rows + (row + q)) + lines ≤ c
@@ -122,26 +117,27 @@ module _ (file : List ℕ) (k s : ℕ) where
         (within-steps k (n T) (d T) s x (v + lines - 1) hs hx (last-below v lines (d T x) some h hv))
         (omega (arith, starts T k .start8, starts T k .end))
 
-    pub stays-part : (room now : List ℕ) (at most lines end count left : ℕ) → LinesPut file k (staysFrom s x v) room at most lines now end → most ≤ lines
-        → RoomFor file k (Stays s x v) at (length room) → count ≡ d T x → left ≡ count - v → most ≡ fewest left (length room - at)
-        → PutPart file k (placeNumber T k (Stays s x v)) room at lines now end
-    stays-part room now at most lines end count left p all r ec el em =
-        let inside = r .inside in
-        let enough = r .enough in
-        let some : 1 ≤ lines = some-lines left (length room - at) most lines em all (p .upTo) (omega arith) (omega arith) in
-        let few : lines ≤ d T x - v = omega (arith, lines-left left (length room - at) most lines em all (p .upTo)) in
-        lines-part file k (staysFrom s x v) room at most lines now end p (placeNumber T k (Stays s x v)) left
-        (λ i l. stays-line i (inside .0) (inside .1) (omega arith)) (stays-up-to lines (inside .0) (inside .1) (inside .2) some few) some
+    module _ (room now : List ℕ) (at lines end count left : ℕ) (p : LinesPut file k (staysFrom s x v) room at left lines now end)
+        (h : RoomFor file k (Stays s x v) at (length room)) (ec : count ≡ d T x) (el : left ≡ count - v) where
+      pub stays-there : lines < left → lineRoom ≤ length now - end → RoomFor file k (Stays s x (v + lines)) end (length now)
+      stays-there l enough =
+          let inside = h .inside in
+          record { inside = (inside .0, inside .1, omega arith); enough = omega (arith, p .within, p .kept) }
 
-    pub stays-there : (room now : List ℕ) (at most lines end count left : ℕ) → LinesPut file k (staysFrom s x v) room at most lines now end → lines < most
-        → RoomFor file k (Stays s x v) at (length room) → count ≡ d T x → left ≡ count - v → most ≡ fewest left (length room - at)
-        → RoomFor file k (Stays s x (v + lines)) end (length now)
-    stays-there room now at most lines end count left p h r ec el em =
-        let inside = r .inside in
-        record {
-          inside = (inside .0, inside .1, omega arith);
-          enough = line-room file k (staysFrom s x v) room at most lines now end p h;
-        }
+      stays-some : 1 ≤ lines → PutPart file k (placeNumber T k (Stays s x v)) room at lines now end
+      stays-some some =
+          let inside = h .inside in
+          let few : lines ≤ d T x - v = omega (arith, p .upTo) in
+          lines-part file k (staysFrom s x v) room at left lines now end p (placeNumber T k (Stays s x v))
+          (λ r l. stays-line r (inside .0) (inside .1) (omega arith)) (stays-up-to lines (inside .0) (inside .1) (inside .2) some few) some
+
+      pub stays-short : length now - end < lineRoom → PutPart file k (placeNumber T k (Stays s x v)) room at lines now end
+      stays-short l = stays-some (some-lines file k (staysFrom s x v) room at left lines now end p l (h .enough))
+
+      pub stays-part : left ≤ lines → PutPart file k (placeNumber T k (Stays s x v)) room at lines now end
+      stays-part all =
+          let inside = h .inside in
+          stays-some (omega arith)
 
   -- preconditions of an action
   module _ (a i : ℕ) where
@@ -173,22 +169,27 @@ module _ (file : List ℕ) (k s : ℕ) where
         let next : preconditionsBefore T (a + 1) ≡ preconditionsBefore T a + preconditions a = rw (add-one a) in
         omega arith
 
-    module _ (room now : List ℕ) (at most lines end count left : ℕ) (p : LinesPut file k (preconditionFrom s a i) room at most lines now end) where
-      pub precondition-there : lines < most → RoomFor file k (Precondition s a i) at (length room) → count ≡ preconditions a → left ≡ count - i → most ≡ fewest left (length room - at)
-          → RoomFor file k (Precondition s a (i + lines)) end (length now)
-      precondition-there l h ec el em =
+    module _ (room now : List ℕ) (at lines end count left : ℕ) (p : LinesPut file k (preconditionFrom s a i) room at left lines now end)
+        (h : RoomFor file k (Precondition s a i) at (length room)) (ec : count ≡ preconditions a) (el : left ≡ count - i) where
+      pub precondition-there : lines < left → lineRoom ≤ length now - end → RoomFor file k (Precondition s a (i + lines)) end (length now)
+      precondition-there l enough =
           let inside = h .inside in
-          record { inside = (inside .0, inside .1, omega arith); enough = line-room file k (preconditionFrom s a i) room at most lines now end p l }
+          record { inside = (inside .0, inside .1, omega arith); enough = omega (arith, p .within, p .kept) }
 
-      pub precondition-part : most ≤ lines → RoomFor file k (Precondition s a i) at (length room) → count ≡ preconditions a → left ≡ count - i → most ≡ fewest left (length room - at)
-          → PutPart file k (placeNumber T k (Precondition s a i)) room at lines now end
-      precondition-part all h ec el em =
+      precondition-some : 1 ≤ lines → PutPart file k (placeNumber T k (Precondition s a i)) room at lines now end
+      precondition-some some =
           let inside = h .inside in
-          let enough = h .enough in
-          let some : 1 ≤ lines = some-lines left (length room - at) most lines em all (p .upTo) (omega arith) (omega arith) in
-          let few : lines ≤ preconditions a - i = omega (arith, lines-left left (length room - at) most lines em all (p .upTo)) in
-          lines-part file k (preconditionFrom s a i) room at most lines now end p (placeNumber T k (Precondition s a i)) left
+          let few : lines ≤ preconditions a - i = omega (arith, p .upTo) in
+          lines-part file k (preconditionFrom s a i) room at left lines now end p (placeNumber T k (Precondition s a i))
           (λ r l. precondition-line r (inside .0) (inside .1) (omega arith)) (preconditions-up-to lines (inside .0) (inside .1) (inside .2) some few) some
+
+      pub precondition-short : length now - end < lineRoom → PutPart file k (placeNumber T k (Precondition s a i)) room at lines now end
+      precondition-short l = precondition-some (some-lines file k (preconditionFrom s a i) room at left lines now end p l (h .enough))
+
+      pub precondition-part : left ≤ lines → PutPart file k (placeNumber T k (Precondition s a i)) room at lines now end
+      precondition-part all =
+          let inside = h .inside in
+          precondition-some (omega arith)
 
   -- effects of an action
   module _ (a i : ℕ) where
@@ -220,22 +221,27 @@ module _ (file : List ℕ) (k s : ℕ) where
         let next : effectsBefore T (a + 1) ≡ effectsBefore T a + effects a = rw (add-one a) in
         omega arith
 
-    module _ (room now : List ℕ) (at most lines end count left : ℕ) (p : LinesPut file k (effectFrom s a i) room at most lines now end) where
-      pub effect-there : lines < most → RoomFor file k (Effect s a i) at (length room) → count ≡ effects a → left ≡ count - i → most ≡ fewest left (length room - at)
-          → RoomFor file k (Effect s a (i + lines)) end (length now)
-      effect-there l h ec el em =
+    module _ (room now : List ℕ) (at lines end count left : ℕ) (p : LinesPut file k (effectFrom s a i) room at left lines now end)
+        (h : RoomFor file k (Effect s a i) at (length room)) (ec : count ≡ effects a) (el : left ≡ count - i) where
+      pub effect-there : lines < left → lineRoom ≤ length now - end → RoomFor file k (Effect s a (i + lines)) end (length now)
+      effect-there l enough =
           let inside = h .inside in
-          record { inside = (inside .0, inside .1, omega arith); enough = line-room file k (effectFrom s a i) room at most lines now end p l }
+          record { inside = (inside .0, inside .1, omega arith); enough = omega (arith, p .within, p .kept) }
 
-      pub effect-part : most ≤ lines → RoomFor file k (Effect s a i) at (length room) → count ≡ effects a → left ≡ count - i → most ≡ fewest left (length room - at)
-          → PutPart file k (placeNumber T k (Effect s a i)) room at lines now end
-      effect-part all h ec el em =
+      effect-some : 1 ≤ lines → PutPart file k (placeNumber T k (Effect s a i)) room at lines now end
+      effect-some some =
           let inside = h .inside in
-          let enough = h .enough in
-          let some : 1 ≤ lines = some-lines left (length room - at) most lines em all (p .upTo) (omega arith) (omega arith) in
-          let few : lines ≤ effects a - i = omega (arith, lines-left left (length room - at) most lines em all (p .upTo)) in
-          lines-part file k (effectFrom s a i) room at most lines now end p (placeNumber T k (Effect s a i)) left
+          let few : lines ≤ effects a - i = omega (arith, p .upTo) in
+          lines-part file k (effectFrom s a i) room at left lines now end p (placeNumber T k (Effect s a i))
           (λ r l. effect-line r (inside .0) (inside .1) (omega arith)) (effects-up-to lines (inside .0) (inside .1) (inside .2) some few) some
+
+      pub effect-short : length now - end < lineRoom → PutPart file k (placeNumber T k (Effect s a i)) room at lines now end
+      effect-short l = effect-some (some-lines file k (effectFrom s a i) room at left lines now end p l (h .enough))
+
+      pub effect-part : left ≤ lines → PutPart file k (placeNumber T k (Effect s a i)) room at lines now end
+      effect-part all =
+          let inside = h .inside in
+          effect-some (omega arith)
 
 -- an action and the next one have rows in the index
 module _ (file index : List ℕ) (ix : Indexed file index) (a : ℕ) (h : a < A (taskOf file)) where

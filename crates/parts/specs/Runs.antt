@@ -1,6 +1,6 @@
 -- Runs of lines: the lines of m clauses from clause c on, and a part of a run in lent room.
 -- Assumes nothing.
-use Prim.Native.Nat.{ℕ, _+_, _-_, _/_, _≤_, _<_, min}
+use Prim.Native.Nat.{ℕ, _+_, _-_, _≤_, _<_}
 use mathlib.Core.Path.{_≡_}
 use mathlib.Core.List.{List}
 use lib.ListN.{length}
@@ -11,7 +11,6 @@ use Rattle.rules.specs.Families.{C, clause}
 use Rattle.rules.specs.Text.{clauseLine}
 use Rattle.rules.specs.Calls.{problemOf}
 use Rattle.digits.specs.Over.{Wrote}
-use Rattle.lines.specs.Written.{lineRoom}
 use Rattle.exclusions.specs.Exclusions.{exclusionLines, numberOfPair}
 
 unfoldable pub run : Problem → (c m : ℕ) → List ℕ
@@ -30,7 +29,3 @@ pub record PutPairs (base count first second : ℕ) (before : List ℕ) (at line
   pub some : 1 ≤ lines
   pub upTo : numberOfPair count first second + lines ≤ pairsBelow count
   pub within : end ≤ length before
-
--- as many lines as are left, if there is surely room for them
-abbrev pub fewest : (left room : ℕ) → ℕ
-fewest left room = min left (room / lineRoom)

@@ -21,17 +21,7 @@ ghost use Rattle.formula.specs.declared.place.Place.{Place};
 ghost use Rattle.formula.specs.InFamily.{placeNumber};
 ghost use Rattle.lines.specs.AtPlace.{RoomFor};
 ghost use Rattle.lines.specs.Given.{Noted};
-ghost use Rattle.parts.specs.Runs.{PutPart, fewest};
-
-// As many lines as are left, if there is surely room for them.
-fn lines_for(left: usize, room: usize) -> usize
-    ensures { λ r. ⌜ r ≡ fewest left room ⌝ }
-{
-    if left < room / LINE_ROOM {
-        return left;
-    }
-    room / LINE_ROOM
-}
+ghost use Rattle.parts.specs.Runs.{PutPart};
 
 // The values of x from v on, by what was noted.
 fn put_values(
@@ -49,10 +39,13 @@ fn put_values(
         × RoomFor (now file) horizon (Place.Stays s x v) at (length (now out)) ⌝ }
     ensures { λ r. ⌜ PutPart (now (file .entry)) horizon (placeNumber (taskOf (now (file .entry))) horizon (Place.Stays s x v)) (now (out .entry)) at (r .lines) (now (out .exit)) (r .end) ⌝ }
 {
-    let most = lines_for(size(file, x) - v, out.len() - at);
+    let left = size(file, x) - v;
     let mut lines = 0;
     let mut end = at;
-    while lines < most {
+    while lines < left {
+        if out.len() - end < LINE_ROOM {
+            return Part { lines, end };
+        }
         end = put_noted(file, index, horizon, s, x, v + lines, given, out, end);
         lines += 1;
     }
@@ -100,10 +93,13 @@ pub fn put_preconditions(
     requires { ⌜ Indexed (now file) (now index) × (horizon ≤ maxHorizon) × RoomFor (now file) horizon (Place.Precondition s a i) at (length (now out)) ⌝ }
     ensures { λ r. ⌜ PutPart (now (file .entry)) horizon (placeNumber (taskOf (now (file .entry))) horizon (Place.Precondition s a i)) (now (out .entry)) at (r .lines) (now (out .exit)) (r .end) ⌝ }
 {
-    let most = lines_for(preconditions_of(file, index, a) - i, out.len() - at);
+    let left = preconditions_of(file, index, a) - i;
     let mut lines = 0;
     let mut end = at;
-    while lines < most {
+    while lines < left {
+        if out.len() - end < LINE_ROOM {
+            return Part { lines, end };
+        }
         end = put_precondition(file, index, horizon, s, a, i + lines, out, end);
         lines += 1;
     }
@@ -132,10 +128,13 @@ pub fn put_effects(
     requires { ⌜ Indexed (now file) (now index) × (horizon ≤ maxHorizon) × RoomFor (now file) horizon (Place.Effect s a i) at (length (now out)) ⌝ }
     ensures { λ r. ⌜ PutPart (now (file .entry)) horizon (placeNumber (taskOf (now (file .entry))) horizon (Place.Effect s a i)) (now (out .entry)) at (r .lines) (now (out .exit)) (r .end) ⌝ }
 {
-    let most = lines_for(effects_of(file, index, a) - i, out.len() - at);
+    let left = effects_of(file, index, a) - i;
     let mut lines = 0;
     let mut end = at;
-    while lines < most {
+    while lines < left {
+        if out.len() - end < LINE_ROOM {
+            return Part { lines, end };
+        }
         end = put_effect(file, index, horizon, s, a, i + lines, out, end);
         lines += 1;
     }
