@@ -21,7 +21,7 @@ use Rattle.formula.specs.declared.place.Place.the-variants.{Start, Goal, AllVal
 use Rattle.formula.specs.Front.{valuesTo}
 use Rattle.digits.specs.Over.{Wrote}
 use Rattle.lines.specs.Written.{literals, lineEnd, literalRoom, endRoom, lineRoom}
-use Rattle.lines.specs.AtPlace.{placeLine, RoomFor}
+use Rattle.lines.specs.AtPlace.{placeLine, RoomFor, PairRoomFor}
 use Rattle.lines.proofs.Writes.{wrote-literals, wrote-line, no-literals}
 
 module _ (file : List ℕ) (k : ℕ) (l m : List ℕ) (at e : ℕ) where
@@ -34,6 +34,11 @@ module _ (file : List ℕ) (k : ℕ) (l m : List ℕ) (at e : ℕ) where
   -- one arm of a match
   pub arm-room : (place p : Place) (room : ℕ) → place ≡ p → RoomFor file k place at room → RoomFor file k p at room
   arm-room place p room f r = rw f at r
+
+  pub arm-pair-room : (place p : Place) (room : ℕ) → place ≡ p → RoomFor file k place at room → PairRoomFor file k p at room
+  arm-pair-room place p room f r =
+      let enough = r .enough in
+      record { inside = arm-room place p room f r .inside; enough = omega arith }
 
   pub arm-line : (place p : Place) → place ≡ p → Wrote l at (placeLine file k p) m e → Wrote l at (placeLine file k place) m e
   arm-line place p f w = rw f w

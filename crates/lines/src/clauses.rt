@@ -21,8 +21,8 @@ ghost use Rattle.rules.specs.Limits.{maxHorizon};
 ghost use Rattle.task.specs.Index.{Indexed};
 ghost use Rattle.formula.specs.declared.place.Place.{Place};
 ghost use Rattle.digits.specs.Over.{Wrote};
-ghost use Rattle.lines.specs.Written.{lineRoom};
-ghost use Rattle.lines.specs.AtPlace.{placeLine, RoomFor};
+ghost use Rattle.lines.specs.Written.{pairRoom, lineRoom};
+ghost use Rattle.lines.specs.AtPlace.{placeLine, RoomFor, PairRoomFor};
 
 // The start value of a variable.
 fn put_start(
@@ -114,9 +114,9 @@ pub fn put_precondition(
     out: &mut [u8],
     at: usize,
 ) -> usize
-    requires { ⌜ Indexed (now file) (now index) × (horizon ≤ maxHorizon) × RoomFor (now file) horizon (Place.Precondition s a i) at (length (now out)) ⌝ }
+    requires { ⌜ Indexed (now file) (now index) × (horizon ≤ maxHorizon) × PairRoomFor (now file) horizon (Place.Precondition s a i) at (length (now out)) ⌝ }
     ensures written { λ end. ⌜ Wrote (now (out .entry)) at (placeLine (now (file .entry)) horizon (Place.Precondition s a i)) (now (out .exit)) end ⌝ }
-    ensures within { λ end. ⌜ end ≤ at + lineRoom ⌝ }
+    ensures within { λ end. ⌜ end ≤ at + pairRoom ⌝ }
 {
     let pair = precondition(file, index, nth_action(a), i);
     let first = action_at(file, index, horizon, s, a);
@@ -135,9 +135,9 @@ pub fn put_effect(
     out: &mut [u8],
     at: usize,
 ) -> usize
-    requires { ⌜ Indexed (now file) (now index) × (horizon ≤ maxHorizon) × RoomFor (now file) horizon (Place.Effect s a i) at (length (now out)) ⌝ }
+    requires { ⌜ Indexed (now file) (now index) × (horizon ≤ maxHorizon) × PairRoomFor (now file) horizon (Place.Effect s a i) at (length (now out)) ⌝ }
     ensures written { λ end. ⌜ Wrote (now (out .entry)) at (placeLine (now (file .entry)) horizon (Place.Effect s a i)) (now (out .exit)) end ⌝ }
-    ensures within { λ end. ⌜ end ≤ at + lineRoom ⌝ }
+    ensures within { λ end. ⌜ end ≤ at + pairRoom ⌝ }
 {
     let pair = effect(file, index, nth_action(a), i);
     let first = action_at(file, index, horizon, s, a);

@@ -2,7 +2,7 @@
 -- Assumes nothing.
 use mathlib.Core.Path.{_≡_, refl, ap, _∙_}
 use mathlib.Core.List.{List}
-use Prim.Native.Nat.{ℕ, _+_, _-_, _*_, _≤_, _<_}
+use Prim.Native.Nat.{ℕ, zero, suc, _+_, _-_, _*_, _≤_, _<_}
 use native.Mathlib.Omega.{arith}
 use native.Mathlib.Numerals.{add-one}
 use lib.ListN.{length}
@@ -26,8 +26,8 @@ use Rattle.digits.proofs.Overs.{wrote-nothing, wrote-more}
 use Rattle.formula.specs.declared.place.Place.{Place}
 use Rattle.formula.specs.declared.place.Place.the-variants.{Precondition, Effect, Stays}
 use Rattle.formula.specs.InFamily.{widthOf, numberIn, placeNumber}
-use Rattle.lines.specs.Written.{lineRoom}
-use Rattle.lines.specs.AtPlace.{placeLine, RoomFor}
+use Rattle.lines.specs.Written.{pairRoom, lineRoom}
+use Rattle.lines.specs.AtPlace.{placeLine, RoomFor, PairRoomFor}
 use Rattle.parts.specs.Runs.{run, PutPart}
 
 -- ---- any places
@@ -46,35 +46,39 @@ effectFrom s a i r = Effect s a (i + r)
 pub record LinesPut (file : List ℕ) (k : ℕ) (places : ℕ → Place) (room : List ℕ) (at left lines : ℕ) (now : List ℕ) (end : ℕ) : Type 0 where
   pub so-far : Wrote room at (forEach lines (λ r. placeLine file k (places r))) now end
   pub kept : length now ≡ length room
-  pub few : end ≤ at + lines * lineRoom
+  pub moved : lines ≡ 0 → end ≡ at
   pub upTo : lines ≤ left
   pub within : end ≤ length room
 
-pub lines-start : (file : List ℕ) (k : ℕ) (places : ℕ → Place) (room : List ℕ) (at left : ℕ) → at + lineRoom ≤ length room → LinesPut file k places room at left 0 room at
+pub lines-start : (file : List ℕ) (k : ℕ) (places : ℕ → Place) (room : List ℕ) (at left enough : ℕ) → at + enough ≤ length room → LinesPut file k places room at left 0 room at
 unfolding forEach
-lines-start file k places room at left h =
-    record { so-far = wrote-nothing room at; kept = refl; few = omega arith; upTo = omega arith; within = omega arith }
+lines-start file k places room at left enough h =
+    record { so-far = wrote-nothing room at; kept = refl; moved = λ z. refl; upTo = omega arith; within = omega arith }
 
 module _ (file : List ℕ) (k : ℕ) (places : ℕ → Place) (room : List ℕ) (at left lines : ℕ) (now : List ℕ) (end : ℕ) (p : LinesPut file k places room at left lines now end) where
   pub end-inside : end ≤ length now
   end-inside = omega (arith, p .within, p .kept)
 
-  pub lines-more : (next : List ℕ) (behind : ℕ) → lines < left → lineRoom ≤ length now - end → Wrote now end (placeLine file k (places lines)) next behind
-      → behind ≤ end + lineRoom → length next ≡ length now → LinesPut file k places room at left (lines + 1) next behind
+  pub lines-more : (next : List ℕ) (behind enough : ℕ) → lines < left → enough ≤ length now - end → Wrote now end (placeLine file k (places lines)) next behind
+      → behind ≤ end + enough → length next ≡ length now → LinesPut file k places room at left (lines + 1) next behind
   unfolding forEach
-  lines-more next behind h enough w l kept =
+  lines-more next behind enough h fits w l kept =
       rw (add-one lines)
       (record {
         so-far = wrote-more room now next at end behind (forEach lines (λ r. placeLine file k (places r))) (placeLine file k (places lines)) (p .so-far) w;
         kept = kept ∙ p .kept;
-        few = omega (arith, p .few);
+        moved = λ z. absurd (omega arith);
         upTo = omega arith;
-        within = omega (arith, p .kept);
+        within = omega (arith, p .kept, p .within);
       })
 
   -- where the room ends, some were written
-  pub some-lines : length now - end < lineRoom → at + lineRoom ≤ length room → 1 ≤ lines
-  some-lines short h = omega (arith, p .few, p .kept)
+  some-lines : (enough : ℕ) → length now - end < enough → at + enough ≤ length room → 1 ≤ lines
+  some-lines enough short h = some lines (p .moved)
+    where
+      some : (m : ℕ) → (m ≡ 0 → end ≡ at) → 1 ≤ m
+      some zero moved = absurd (omega (arith, moved refl, p .kept))
+      some (suc m) moved = omega arith
 
   -- all of them are a part of a run, where each line is that of its clause
   lines-part : (c : ℕ) → ((r : ℕ) → r < lines → clauseLine (clause (problemOf file k) (c + r)) ≡ placeLine file k (places r)) → c + lines ≤ C (problemOf file k)
@@ -132,7 +136,7 @@ module _ (file : List ℕ) (k s : ℕ) where
           (λ r l. stays-line r (inside .0) (inside .1) (omega arith)) (stays-up-to lines (inside .0) (inside .1) (inside .2) some few) some
 
       pub stays-short : length now - end < lineRoom → PutPart file k (placeNumber T k (Stays s x v)) room at lines now end
-      stays-short l = stays-some (some-lines file k (staysFrom s x v) room at left lines now end p l (h .enough))
+      stays-short l = stays-some (some-lines file k (staysFrom s x v) room at left lines now end p lineRoom l (h .enough))
 
       pub stays-part : left ≤ lines → PutPart file k (placeNumber T k (Stays s x v)) room at lines now end
       stays-part all =
@@ -170,8 +174,8 @@ module _ (file : List ℕ) (k s : ℕ) where
         omega arith
 
     module _ (room now : List ℕ) (at lines end count left : ℕ) (p : LinesPut file k (preconditionFrom s a i) room at left lines now end)
-        (h : RoomFor file k (Precondition s a i) at (length room)) (ec : count ≡ preconditions a) (el : left ≡ count - i) where
-      pub precondition-there : lines < left → lineRoom ≤ length now - end → RoomFor file k (Precondition s a (i + lines)) end (length now)
+        (h : PairRoomFor file k (Precondition s a i) at (length room)) (ec : count ≡ preconditions a) (el : left ≡ count - i) where
+      pub precondition-there : lines < left → pairRoom ≤ length now - end → PairRoomFor file k (Precondition s a (i + lines)) end (length now)
       precondition-there l enough =
           let inside = h .inside in
           record { inside = (inside .0, inside .1, omega arith); enough = omega (arith, p .within, p .kept) }
@@ -183,8 +187,8 @@ module _ (file : List ℕ) (k s : ℕ) where
           lines-part file k (preconditionFrom s a i) room at left lines now end p (placeNumber T k (Precondition s a i))
           (λ r l. precondition-line r (inside .0) (inside .1) (omega arith)) (preconditions-up-to lines (inside .0) (inside .1) (inside .2) some few) some
 
-      pub precondition-short : length now - end < lineRoom → PutPart file k (placeNumber T k (Precondition s a i)) room at lines now end
-      precondition-short l = precondition-some (some-lines file k (preconditionFrom s a i) room at left lines now end p l (h .enough))
+      pub precondition-short : length now - end < pairRoom → PutPart file k (placeNumber T k (Precondition s a i)) room at lines now end
+      precondition-short l = precondition-some (some-lines file k (preconditionFrom s a i) room at left lines now end p pairRoom l (h .enough))
 
       pub precondition-part : left ≤ lines → PutPart file k (placeNumber T k (Precondition s a i)) room at lines now end
       precondition-part all =
@@ -222,8 +226,8 @@ module _ (file : List ℕ) (k s : ℕ) where
         omega arith
 
     module _ (room now : List ℕ) (at lines end count left : ℕ) (p : LinesPut file k (effectFrom s a i) room at left lines now end)
-        (h : RoomFor file k (Effect s a i) at (length room)) (ec : count ≡ effects a) (el : left ≡ count - i) where
-      pub effect-there : lines < left → lineRoom ≤ length now - end → RoomFor file k (Effect s a (i + lines)) end (length now)
+        (h : PairRoomFor file k (Effect s a i) at (length room)) (ec : count ≡ effects a) (el : left ≡ count - i) where
+      pub effect-there : lines < left → pairRoom ≤ length now - end → PairRoomFor file k (Effect s a (i + lines)) end (length now)
       effect-there l enough =
           let inside = h .inside in
           record { inside = (inside .0, inside .1, omega arith); enough = omega (arith, p .within, p .kept) }
@@ -235,8 +239,8 @@ module _ (file : List ℕ) (k s : ℕ) where
           lines-part file k (effectFrom s a i) room at left lines now end p (placeNumber T k (Effect s a i))
           (λ r l. effect-line r (inside .0) (inside .1) (omega arith)) (effects-up-to lines (inside .0) (inside .1) (inside .2) some few) some
 
-      pub effect-short : length now - end < lineRoom → PutPart file k (placeNumber T k (Effect s a i)) room at lines now end
-      effect-short l = effect-some (some-lines file k (effectFrom s a i) room at left lines now end p l (h .enough))
+      pub effect-short : length now - end < pairRoom → PutPart file k (placeNumber T k (Effect s a i)) room at lines now end
+      effect-short l = effect-some (some-lines file k (effectFrom s a i) room at left lines now end p pairRoom l (h .enough))
 
       pub effect-part : left ≤ lines → PutPart file k (placeNumber T k (Effect s a i)) room at lines now end
       effect-part all =

@@ -1,4 +1,5 @@
 // Lines of pairs that exclude each other, as many as are left in a step and as there is room for.
+use crate::single::PAIR_ROOM;
 use crate::single::Part;
 use exclusions::put_exclusions;
 use formula::families::pairs_below;
@@ -17,11 +18,8 @@ ghost use Rattle.task.specs.Index.{Indexed};
 ghost use Rattle.formula.specs.declared.place.Place.{Place};
 ghost use Rattle.formula.specs.InFamily.{placeNumber};
 ghost use Rattle.exclusions.specs.Exclusions.{numberOfPair, pairRoom};
-ghost use Rattle.lines.specs.AtPlace.{RoomFor};
+ghost use Rattle.lines.specs.AtPlace.{PairRoomFor};
 ghost use Rattle.parts.specs.Runs.{PutPart, PutPairs};
-
-// Room that surely suffices for a line of two literals.
-const PAIR_ROOM: usize = 16;
 
 fn smaller(a: usize, b: usize) -> usize
     ensures { λ r. ⌜ r ≡ min a b ⌝ }
@@ -69,7 +67,7 @@ pub fn put_two_actions(
     out: &mut [u8],
     at: usize,
 ) -> Part
-    requires { ⌜ Indexed (now file) (now index) × (horizon ≤ maxHorizon) × RoomFor (now file) horizon (Place.TwoActions s a b) at (length (now out)) ⌝ }
+    requires { ⌜ Indexed (now file) (now index) × (horizon ≤ maxHorizon) × PairRoomFor (now file) horizon (Place.TwoActions s a b) at (length (now out)) ⌝ }
     ensures { λ r. ⌜ PutPart (now (file .entry)) horizon (placeNumber (taskOf (now (file .entry))) horizon (Place.TwoActions s a b)) (now (out .entry)) at (r .lines) (now (out .exit)) (r .end) ⌝ }
 {
     let base = number_of(action_at(file, index, horizon, s, 0));
@@ -88,7 +86,7 @@ pub fn put_two_values(
     out: &mut [u8],
     at: usize,
 ) -> Part
-    requires { ⌜ Indexed (now file) (now index) × (horizon ≤ maxHorizon) × RoomFor (now file) horizon (Place.TwoValues s x v w) at (length (now out)) ⌝ }
+    requires { ⌜ Indexed (now file) (now index) × (horizon ≤ maxHorizon) × PairRoomFor (now file) horizon (Place.TwoValues s x v w) at (length (now out)) ⌝ }
     ensures { λ r. ⌜ PutPart (now (file .entry)) horizon (placeNumber (taskOf (now (file .entry))) horizon (Place.TwoValues s x v w)) (now (out .entry)) at (r .lines) (now (out .exit)) (r .end) ⌝ }
 {
     let base = number_of(value_at(file, index, horizon, s, x, 0));

@@ -1,6 +1,7 @@
 // Lines of places that follow each other: the values of a variable that stay at a step, and the preconditions or effects of an action there; as
 // many as there are and as there is surely room for.
 use crate::single::LINE_ROOM;
+use crate::single::PAIR_ROOM;
 use crate::single::Part;
 use lines::clauses::put_effect;
 use lines::clauses::put_precondition;
@@ -19,7 +20,7 @@ ghost use Rattle.rules.specs.File.{taskOf};
 ghost use Rattle.task.specs.Index.{Indexed};
 ghost use Rattle.formula.specs.declared.place.Place.{Place};
 ghost use Rattle.formula.specs.InFamily.{placeNumber};
-ghost use Rattle.lines.specs.AtPlace.{RoomFor};
+ghost use Rattle.lines.specs.AtPlace.{RoomFor, PairRoomFor};
 ghost use Rattle.lines.specs.Given.{Noted};
 ghost use Rattle.parts.specs.Runs.{PutPart};
 
@@ -90,14 +91,14 @@ pub fn put_preconditions(
     out: &mut [u8],
     at: usize,
 ) -> Part
-    requires { ⌜ Indexed (now file) (now index) × (horizon ≤ maxHorizon) × RoomFor (now file) horizon (Place.Precondition s a i) at (length (now out)) ⌝ }
+    requires { ⌜ Indexed (now file) (now index) × (horizon ≤ maxHorizon) × PairRoomFor (now file) horizon (Place.Precondition s a i) at (length (now out)) ⌝ }
     ensures { λ r. ⌜ PutPart (now (file .entry)) horizon (placeNumber (taskOf (now (file .entry))) horizon (Place.Precondition s a i)) (now (out .entry)) at (r .lines) (now (out .exit)) (r .end) ⌝ }
 {
     let left = preconditions_of(file, index, a) - i;
     let mut lines = 0;
     let mut end = at;
     while lines < left {
-        if out.len() - end < LINE_ROOM {
+        if out.len() - end < PAIR_ROOM {
             return Part { lines, end };
         }
         end = put_precondition(file, index, horizon, s, a, i + lines, out, end);
@@ -125,14 +126,14 @@ pub fn put_effects(
     out: &mut [u8],
     at: usize,
 ) -> Part
-    requires { ⌜ Indexed (now file) (now index) × (horizon ≤ maxHorizon) × RoomFor (now file) horizon (Place.Effect s a i) at (length (now out)) ⌝ }
+    requires { ⌜ Indexed (now file) (now index) × (horizon ≤ maxHorizon) × PairRoomFor (now file) horizon (Place.Effect s a i) at (length (now out)) ⌝ }
     ensures { λ r. ⌜ PutPart (now (file .entry)) horizon (placeNumber (taskOf (now (file .entry))) horizon (Place.Effect s a i)) (now (out .entry)) at (r .lines) (now (out .exit)) (r .end) ⌝ }
 {
     let left = effects_of(file, index, a) - i;
     let mut lines = 0;
     let mut end = at;
     while lines < left {
-        if out.len() - end < LINE_ROOM {
+        if out.len() - end < PAIR_ROOM {
             return Part { lines, end };
         }
         end = put_effect(file, index, horizon, s, a, i + lines, out, end);

@@ -15,6 +15,9 @@ ghost use Rattle.parts.specs.Runs.{PutPart};
 // Room that surely suffices for a line: 514 literals of 7 bytes, and its end.
 pub const LINE_ROOM: usize = 3600;
 
+// Room that surely suffices for a line of two literals.
+pub const PAIR_ROOM: usize = 16;
+
 // How many lines were written, and the place behind them.
 pub struct Part {
     pub lines: usize,

@@ -1,6 +1,6 @@
 -- `clauses::put_clause` meets its contract.
 -- Assumes nothing.
-use Rattle.lines.proofs.ByPlace.{arm-room, arm-line}
+use Rattle.lines.proofs.ByPlace.{arm-room, arm-pair-room, arm-line}
 use borrow.Author.Needs.{needs}
 use Rattle.lines.proofs.clauses.put_clause.Statement.{statement}
 use Rattle.lines.proofs.clauses.put_clause.Tie as tie
@@ -18,9 +18,9 @@ put-clause-spec =
     (λ c. search needs)
     (λ c κs. search (needs, arm-room))
     (λ c. search needs)
-    (λ c κs. search (needs, arm-room))
+    (λ c κs. search (needs, arm-pair-room))
     (λ c. search needs)
-    (λ c κs. search (needs, arm-room))
+    (λ c κs. search (needs, arm-pair-room))
     (λ c. search needs)
     (λ c κs. search (needs, arm-room))
     (λ c. search needs)

@@ -1,6 +1,6 @@
 -- `next::put_from` meets its contract.
 -- Assumes nothing.
-use Rattle.parts.proofs.Arms.{arm-room, arm-part}
+use Rattle.parts.proofs.Arms.{arm-at, arm-room, arm-part}
 use borrow.Author.Needs.{needs}
 use Rattle.parts.proofs.next.put_from.Statement.{statement}
 use Rattle.parts.proofs.next.put_from.Tie as tie
@@ -22,7 +22,7 @@ put-from-spec =
     (λ c. search needs)
     (λ c κs. search (needs, arm-room))
     (λ c. search needs)
-    (λ c κs. search (needs, arm-room))
+    (λ c κs. search (needs, arm-at))
     (λ c. search needs)
     (λ c κs. search (needs, arm-room))
     (λ c. search needs)
@@ -38,6 +38,6 @@ put-from-spec =
     (λ c. search needs)
     (λ c. search (needs, arm-part))
     (λ c. search needs)
-    (λ c. search (needs, arm-part))
+    (λ c. search needs)
     (λ c. search needs)
     (λ c. search (needs, arm-part)))
