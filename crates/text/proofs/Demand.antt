@@ -1,5 +1,5 @@
 -- Demand 2, first sentence, of text: the header and over all c below C the lines that `clause_line` writes are the formula's text, in order; so are
--- the header and what calls of `lines` write, each beginning behind the lines of the one before, whatever room each is lent that takes a line.
+-- the header and what calls of `lines` write, each beginning behind the lines of the one before, whatever room each is lent that takes any line.
 -- Assumes nothing.
 use mathlib.Core.Path.{_≡_, sym, ap, _∙_}
 use mathlib.Core.List.{List, [], _++_}
@@ -16,6 +16,7 @@ use Rattle.rules.specs.Calls.{problemOf, problemVerdict, lentAfter, headerVerdi
 use Rattle.rules.specs.declared.Verdict.{Verdict}
 use Rattle.rules.specs.declared.Verdict.the-variants.{Accepted}
 use Rattle.rules.proofs.Counting.{forEach-ext, forEach-joined}
+use Rattle.lines.specs.Written.{lineRoom}
 use Rattle.parts.specs.Runs.{run}
 use Rattle.parts.proofs.OneLine.{no-line}
 use Rattle.text.specs.declared.calls.TextAnswer.{TextAnswer}
@@ -25,6 +26,7 @@ use Rattle.text.proofs.Longest.{run-taken, some-fit, lines-most}
 use Rattle.text.proofs.Running.{run-append}
 use Rattle.text.proofs.Answered.{header-fits, line-fits}
 use Rattle.text.proofs.Taken.{linesOf}
+use Rattle.text.proofs.Room.{line-most}
 
 -- the bytes that an answer says were written
 abbrev pub textOf : TextAnswer → List ℕ → List ℕ
@@ -54,9 +56,10 @@ module _ (file : List ℕ) (k : ℕ) (ok : problemVerdict file k ≡ Accepted) w
   the-header lent left r room p =
       rw (p .0, p .1) (written-first (headerVerdict file k (length lent)) 1 (headerLine P) lent (header-fits file k (length lent) ok room))
 
-  pub each-line : (c : ℕ) (lent left : List ℕ) (r : TextAnswer) → c < C P → length (clauseLine (clause P c)) ≤ length lent
-      → LinePromised file k c lent r left → textOf r left ≡ clauseLine (clause P c)
-  each-line c lent left r h room p =
+  pub each-line : (c : ℕ) (lent left : List ℕ) (r : TextAnswer) → c < C P → lineRoom ≤ length lent → LinePromised file k c lent r left
+      → textOf r left ≡ clauseLine (clause P c)
+  each-line c lent left r h wide p =
+      let room : length (clauseLine (clause P c)) ≤ length lent = omega (arith, line-most file k c ok h) in
       rw (p .0, p .1)
       (written-first (clauseLineVerdict file k c (length lent)) 1 (clauseLine (clause P c)) lent (line-fits file k c (length lent) ok h room))
 
@@ -67,18 +70,21 @@ module _ (file : List ℕ) (k : ℕ) (ok : problemVerdict file k ≡ Accepted) w
   -- one clause after the other gives the formula's text
   pub the-text : (lent left : ℕ → List ℕ) (r : ℕ → TextAnswer) (lent₀ left₀ : List ℕ) (r₀ : TextAnswer)
       → length (headerLine P) ≤ length lent₀ → HeaderPromised file k lent₀ r₀ left₀
-      → ((c : ℕ) → c < C P → length (clauseLine (clause P c)) ≤ length (lent c)) → ((c : ℕ) → c < C P → LinePromised file k c (lent c) (r c) (left c))
+      → ((c : ℕ) → c < C P → lineRoom ≤ length (lent c)) → ((c : ℕ) → c < C P → LinePromised file k c (lent c) (r c) (left c))
       → textOf r₀ left₀ ++ forEach (C P) (λ c. textOf (r c) (left c)) ≡ formulaText P
   unfolding formulaText
-  the-text lent left r lent₀ left₀ r₀ room₀ p₀ room p =
+  the-text lent left r lent₀ left₀ r₀ room₀ p₀ wide p =
       rw (the-header lent₀ left₀ r₀ room₀ p₀)
       (ap (λ t. headerLine P ++ t)
-      (forEach-ext (C P) (λ c. textOf (r c) (left c)) (λ c. clauseLine (clause P c)) (λ c h. each-line c (lent c) (left c) (r c) h (room c h) (p c h))
+      (forEach-ext (C P) (λ c. textOf (r c) (left c)) (λ c. clauseLine (clause P c)) (λ c h. each-line c (lent c) (left c) (r c) h (wide c h) (p c h))
       ∙ all-lines-are))
 
   -- ---- many lines at a call
 
-  module _ (c : ℕ) (lent left : List ℕ) (r : TextAnswer) (h : c < C P) (room : length (clauseLine (clause P c)) ≤ length lent) (p : LinesPromised file k c lent r left) where
+  module _ (c : ℕ) (lent left : List ℕ) (r : TextAnswer) (h : c < C P) (wide : lineRoom ≤ length lent) (p : LinesPromised file k c lent r left) where
+    room : length (clauseLine (clause P c)) ≤ length lent
+    room = omega (arith, line-most file k c ok h)
+
     fine : clauseLineVerdict file k c (length lent) ≡ Accepted
     fine = line-fits file k c (length lent) ok h room
 
@@ -104,11 +110,9 @@ module _ (file : List ℕ) (k : ℕ) (ok : problemVerdict file k ≡ Accepted) w
     abbrev pub before : ℕ → ℕ
     before i = sumTo i (λ j. linesOf (r j))
 
-    -- the first m calls all began below C, in room that took a line
+    -- the first m calls all began below C, in room that takes any line
     abbrev pub Called : ℕ → Type 0
-    Called m =
-        (i : ℕ) → i < m
-        → (before i < C P) × (length (clauseLine (clause P (before i))) ≤ length (lent i)) × LinesPromised file k (before i) (lent i) (r i) (left i)
+    Called m = (i : ℕ) → i < m → (before i < C P) × (lineRoom ≤ length (lent i)) × LinesPromised file k (before i) (lent i) (r i) (left i)
 
     run-so-far : (m : ℕ) → Called m → forEach m (λ i. textOf (r i) (left i)) ≡ run P 0 (before m)
     unfolding forEach sumTo

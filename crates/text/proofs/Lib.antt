@@ -4,5 +4,6 @@ pub mod Running
 pub mod Heading
 pub mod Answered
 pub mod Taken
+pub mod Room
 pub mod OneAnswer
 pub mod Demand
