@@ -23,7 +23,7 @@ use Rattle.rules.proofs.Decimal.{decimal-few}
 use Rattle.rules.proofs.Within.{variableIn, isWithin, allWithin, all-within}
 use Rattle.rules.proofs.Bounds.{N-bound, clause-bound}
 use Rattle.rules.proofs.Files.{accepted-well-formed}
-use Rattle.formula.proofs.Answered.{file-accepted, horizon-right}
+use Rattle.task.proofs.Stated.{file-accepted, horizon-right}
 use Rattle.lines.specs.Written.{literalRoom, endRoom, lineRoom}
 
 literal-few : (l : Literal) → variableIn l ≤ maxN → length (literalText l ++ (space ∷ [])) ≤ literalRoom
