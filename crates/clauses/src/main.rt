@@ -13,11 +13,14 @@ use task::problem::problem_verdict;
 use text::calls::TextAnswer;
 use text::calls::header_indexed;
 use text::calls::lines_indexed;
-ghost use Prim.Native.Nat.{_≤_};
+ghost use mathlib.Core.Path.{_≡_};
+ghost use Prim.Native.Nat.{suc, _≤_};
 ghost use lib.ListN.{length};
 ghost use Rattle.rules.specs.Limits.{maxHorizon};
+ghost use Rattle.rules.specs.Families.{C};
+ghost use Rattle.rules.specs.Calls.{problemOf};
 ghost use Rattle.task.specs.Index.{Indexed};
-ghost use Rattle.printing.specs.Printed.{refusalRoom};
+ghost use Rattle.lines.specs.Written.{lineRoom};
 
 // The horizon byte, the longest file, and one byte more, by which a file that is too long shows.
 const INPUT_ROOM: usize = 1 + MAX_FILE + 1;
@@ -25,36 +28,39 @@ const INPUT_ROOM: usize = 1 + MAX_FILE + 1;
 // Lines are made and printed by so many bytes.
 const TEXT_ROOM: usize = 262144;
 
-// All lines, as many at a time as fit.
-fn print_lines(file: &[u8], index: &[usize], horizon: usize, out: &mut [u8])
-    requires { ⌜ Indexed (now file) (now index) × (horizon ≤ maxHorizon) ⌝ }
+// All lines, as many at a time as fit: how many were made and printed. In room for any line none is refused.
+fn print_lines(file: &[u8], index: &[usize], horizon: usize, out: &mut [u8]) -> usize
+    requires { ⌜ Indexed (now file) (now index) × (horizon ≤ maxHorizon) × (lineRoom ≤ length (now out)) ⌝ }
+    ensures { λ r. ⌜ r ≡ C (problemOf (now (file .entry)) horizon) ⌝ }
 {
     let all = count_clauses(file, index, horizon);
     let mut c = 0;
     while c < all {
         let TextAnswer::Written { lines, bytes } = lines_indexed(file, index, horizon, c, out)
         else {
-            return;
+            return c;
         };
         io::write_all(STDOUT_FILENO, &out[..bytes]);
         c += lines;
     }
+    c
 }
 
-// The header and the lines behind it.
-fn print_formula(file: &[u8], index: &[usize], horizon: usize, out: &mut [u8])
-    requires { ⌜ Indexed (now file) (now index) × (horizon ≤ maxHorizon) ⌝ }
+// The header and the lines behind it: how many were made and printed.
+fn print_formula(file: &[u8], index: &[usize], horizon: usize, out: &mut [u8]) -> usize
+    requires { ⌜ Indexed (now file) (now index) × (horizon ≤ maxHorizon) × (lineRoom ≤ length (now out)) ⌝ }
+    ensures { λ r. ⌜ r ≡ suc (C (problemOf (now (file .entry)) horizon)) ⌝ }
 {
-    let TextAnswer::Written { lines: _, bytes } = header_indexed(file, index, horizon, out) else {
-        return;
+    let TextAnswer::Written { lines, bytes } = header_indexed(file, index, horizon, out) else {
+        return 0;
     };
     io::write_all(STDOUT_FILENO, &out[..bytes]);
-    print_lines(file, index, horizon, out);
+    lines + print_lines(file, index, horizon, out)
 }
 
 // The text of a file at a horizon, or the line of a refusal.
 fn print_answer(file: &[u8], horizon: usize, out: &mut [u8])
-    requires { ⌜ refusalRoom ≤ length (now out) ⌝ }
+    requires { ⌜ lineRoom ≤ length (now out) ⌝ }
 {
     let verdict = problem_verdict(file, horizon);
     if let Verdict::Refused(why) = verdict {
@@ -69,7 +75,7 @@ fn print_answer(file: &[u8], horizon: usize, out: &mut [u8])
 
 // The horizon is the first byte of the input, the file the others; a missing horizon is 0.
 fn print_for(input: &[u8], out: &mut [u8])
-    requires { ⌜ refusalRoom ≤ length (now out) ⌝ }
+    requires { ⌜ lineRoom ≤ length (now out) ⌝ }
 {
     if input.len() == 0 {
         print_answer(input, 0, out);
