@@ -15,7 +15,7 @@ use Rattle.rules.specs.Text.{ascii, lf, space, decimal, headerLine, refusalLine
 use Rattle.rules.specs.Calls.{problemOf, problemVerdict, headerVerdict, clauseLineVerdict}
 use Rattle.rules.specs.declared.Refusal.{Refusal}
 use Rattle.rules.specs.declared.Verdict.{Verdict}
-use Rattle.rules.specs.declared.Verdict.the-variants.{Accepted}
+use Rattle.rules.specs.declared.Verdict.the-variants.{Accepted, Refused}
 use Rattle.rules.proofs.Decimal.{decimal-few}
 use Rattle.task.specs.Index.{Indexed}
 use Rattle.task.proofs.Stated.{problem-accepted}
@@ -29,6 +29,7 @@ use Rattle.text.proofs.Heading.{variables-most, clauses-most}
 use Rattle.text.proofs.Answered.{header-fits, line-fits}
 use Rattle.text.proofs.Room.{line-most}
 use Rattle.text.proofs.Taken.{linesOf, header-within, lines-some, lines-up-to, bytes-within}
+use Rattle.clauses.specs.Printed.{linesPrinted}
 
 pub prefix-long : (l : List ℕ) (k : ℕ) → k ≤ length l → k ≡ length (take k l)
 prefix-long l k h = sym (length-take-le k l h)
@@ -48,6 +49,15 @@ lines-within file k c room m b r after e f h = omega (arith, bytes-within file k
 pub header-here : (file : List ℕ) (k room m b : ℕ) (r : TextAnswer) (after : List ℕ) → r ≡ headerAnswer file k room → r ≡ text.Written m b
     → length after ≡ room → b ≤ length after
 header-here file k room m b r after e f h = omega (arith, header-within file k room m b r e f)
+
+-- ---- how many lines were printed
+
+module _ (v w : Verdict) (clauses : ℕ) (e : v ≡ w) where
+  pub refusal-counted : (why : Refusal) → v ≡ Refused why → 1 ≡ linesPrinted w clauses
+  refusal-counted why f = rw (← e, f)
+
+  pub text-counted : (r : ℕ) → v ≡ Accepted → r ≡ suc clauses → r ≡ linesPrinted w clauses
+  text-counted r f g = rw (← e, f) g
 
 -- ---- in room for any line neither the header nor a line is refused
 

@@ -18,15 +18,19 @@ ghost use Prim.Native.Nat.{suc, _≤_};
 ghost use lib.ListN.{length};
 ghost use Rattle.rules.specs.Limits.{maxHorizon};
 ghost use Rattle.rules.specs.Families.{C};
-ghost use Rattle.rules.specs.Calls.{problemOf};
+ghost use Rattle.rules.specs.Calls.{problemOf, problemVerdict};
 ghost use Rattle.task.specs.Index.{Indexed};
 ghost use Rattle.lines.specs.Written.{lineRoom};
+ghost use Rattle.clauses.specs.Printed.{linesPrinted};
 
 // The horizon byte, the longest file, and one byte more, by which a file that is too long shows.
 const INPUT_ROOM: usize = 1 + MAX_FILE + 1;
 
 // Lines are made and printed by so many bytes.
 const TEXT_ROOM: usize = 262144;
+
+// A refusal is one line.
+const REFUSAL_LINES: usize = 1;
 
 // All lines, as many at a time as fit: how many were made and printed. In room for any line none is refused.
 fn print_lines(file: &[u8], index: &[usize], horizon: usize, out: &mut [u8]) -> usize
@@ -58,19 +62,20 @@ fn print_formula(file: &[u8], index: &[usize], horizon: usize, out: &mut [u8]) -
     lines + print_lines(file, index, horizon, out)
 }
 
-// The text of a file at a horizon, or the line of a refusal.
-fn print_answer(file: &[u8], horizon: usize, out: &mut [u8])
+// The text of a file at a horizon, or the line of a refusal: how many lines were made and printed.
+fn print_answer(file: &[u8], horizon: usize, out: &mut [u8]) -> usize
     requires { ⌜ lineRoom ≤ length (now out) ⌝ }
+    ensures { λ r. ⌜ r ≡ linesPrinted (problemVerdict (now (file .entry)) horizon) (C (problemOf (now (file .entry)) horizon)) ⌝ }
 {
     let verdict = problem_verdict(file, horizon);
     if let Verdict::Refused(why) = verdict {
         let bytes = refusal_line(out, why);
         io::write_all(STDOUT_FILENO, &out[..bytes]);
-        return;
+        return REFUSAL_LINES;
     }
     let mut index = [0usize; INDEX_LENGTH];
     fill_index(file, &mut index);
-    print_formula(file, &index, horizon, out);
+    print_formula(file, &index, horizon, out)
 }
 
 // The horizon is the first byte of the input, the file the others; a missing horizon is 0.
