@@ -6,7 +6,7 @@ use mathlib.Core.List.{List, [], _∷_}
 use lib.Dec.{eqb}
 use Rattle.rules.specs.Counting.{first}
 use Rattle.rules.specs.declared.Refusal.{Refusal}
-use Rattle.rules.specs.declared.Refusal.the-variants.{FileLength, ContentsRow, BodyLength, DomainSize, StartValue, GoalPair, ActionAtFault, Horizon, ClauseNumber, Room, Grammar, OutOfPlace, OverN, GivenBefore, Unfinished, NotGiven, FalseClause, Unsatisfiable, Unknown, EntryOverA, DoesNotApply, GoalUnmet}
+use Rattle.rules.specs.declared.Refusal.the-variants.{FileLength, ContentsRow, BodyLength, DomainSize, StartValue, GoalPair, ActionAtFault, Horizon, ClauseNumber, Room, Grammar, OutOfPlace, OverN, GivenBefore, Unfinished, NotGiven, FalseClause, Unsatisfiable, Unknown, EntryOverA, DoesNotApply, GoalUnmet, AgainstFormat, AxiomOrCondition, OtherVersion}
 use Rattle.rules.specs.declared.Verdict.{Verdict}
 use Rattle.rules.specs.declared.LineAnswer.{LineAnswer}
 use Rattle.rules.specs.declared.Verdict.the-variants.{Accepted, Refused}
@@ -43,6 +43,9 @@ answerOf Unknown = answer 19 0
 answerOf (EntryOverA t) = answer 20 t
 answerOf (DoesNotApply t) = answer 21 t
 answerOf (GoalUnmet i) = answer 22 i
+answerOf (AgainstFormat line) = answer 30 line
+answerOf (AxiomOrCondition line) = answer 31 line
+answerOf (OtherVersion line) = answer 32 line
 
 -- 0 is acceptance, detail 0
 abbrev pub answerTo : Verdict → Answer

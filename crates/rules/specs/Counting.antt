@@ -29,6 +29,11 @@ module _ {X : Type 0} where
   unfoldable pub forPairs : ℕ → (ℕ → ℕ → List X) → List X
   forPairs m f = forEach m (λ i. forEach (m - suc i) (λ j. f i (suc i + j)))
 
+  -- a list m times
+  unfoldable pub times : ℕ → List X → List X
+  times zero l = []
+  times (suc m) l = l ++ times m l
+
   abbrev pub when : Bool → List X → List X
   when b l = cond b l []
 

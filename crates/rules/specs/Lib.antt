@@ -16,4 +16,6 @@ pub mod Readings
 pub mod Lines
 pub mod Output
 pub mod Calls
+pub mod Format
+pub mod Translation
 pub mod Programs

@@ -33,6 +33,14 @@ maxLine = 4096
 abbrev pub maxDigits : ℕ
 maxDigits = 6
 
+-- of a number in the translator's text
+abbrev pub maxTextDigits : ℕ
+maxTextDigits = 6
+
+-- of the translator's format
+abbrev pub formatVersion : ℕ
+formatVersion = 3
+
 -- how many values a byte has
 abbrev pub byteValues : ℕ
 byteValues = 256

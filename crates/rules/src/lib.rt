@@ -24,6 +24,9 @@ pub enum Refusal {
     EntryOverA(usize),
     DoesNotApply(usize),
     GoalUnmet(usize),
+    AgainstFormat(usize),
+    AxiomOrCondition(usize),
+    OtherVersion(usize),
 }
 
 // The answer of a call that only judges.
@@ -51,4 +54,44 @@ pub struct Reading {
 pub enum LineAnswer {
     Next(Reading),
     Refused(Refusal),
+}
+
+// The lines of the translator's text by what they say, in the format's own order.
+pub enum FormatLine {
+    BeginVersion,
+    Version,
+    EndVersion,
+    BeginMetric,
+    Metric,
+    EndMetric,
+    VariableCount,
+    BeginVariable,
+    VariableName,
+    AxiomLayer,
+    Range,
+    AtomName,
+    EndVariable,
+    MutexGroupCount,
+    BeginMutexGroup,
+    MutexFactCount,
+    MutexFact,
+    EndMutexGroup,
+    BeginState,
+    StateValue,
+    EndState,
+    BeginGoal,
+    GoalCount,
+    GoalFact,
+    EndGoal,
+    OperatorCount,
+    BeginOperator,
+    OperatorName,
+    PrevailCount,
+    PrevailCondition,
+    EffectCount,
+    Effect,
+    Cost,
+    EndOperator,
+    AxiomCount,
+    EndOfText,
 }
