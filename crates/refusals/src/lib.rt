@@ -3,7 +3,7 @@ use rules::Refusal;
 ghost use mathlib.Core.Path.{_≡_};
 ghost use Rattle.rules.specs.Answers.{answerOf};
 
-// The number of a refusal, 1 to 22.
+// The number of a refusal.
 pub fn number_of(why: Refusal) -> usize
     ensures { λ r. ⌜ r ≡ answerOf why .number ⌝ }
 {
@@ -30,6 +30,9 @@ pub fn number_of(why: Refusal) -> usize
         Refusal::EntryOverA(_) => 20,
         Refusal::DoesNotApply(_) => 21,
         Refusal::GoalUnmet(_) => 22,
+        Refusal::AgainstFormat(_) => 30,
+        Refusal::AxiomOrCondition(_) => 31,
+        Refusal::OtherVersion(_) => 32,
     }
 }
 
@@ -60,5 +63,8 @@ pub fn detail_of(why: Refusal) -> usize
         Refusal::EntryOverA(t) => t,
         Refusal::DoesNotApply(t) => t,
         Refusal::GoalUnmet(i) => i,
+        Refusal::AgainstFormat(line) => line,
+        Refusal::AxiomOrCondition(line) => line,
+        Refusal::OtherVersion(line) => line,
     }
 }

@@ -195,8 +195,8 @@ lineRules effect at line =
     demand (isPlain (wordAt line 0)) (AgainstFormat at)
     ∷ demand (eqb (numberAt line 0) 0) (AxiomOrCondition at)
     ∷ demand
-      (eqb (wordCount line) 4 && isPlain (wordAt line 1) && (isPlain (wordAt line 2) || isMinusOne (wordAt line 2)) && isPlain (wordAt line 3))
-      (AgainstFormat at)
+    (eqb (wordCount line) 4 && isPlain (wordAt line 1) && (isPlain (wordAt line 2) || isMinusOne (wordAt line 2)) && isPlain (wordAt line 3))
+    (AgainstFormat at)
     ∷ []
 lineRules axiomCount at line =
     demand (isPlain (wordAt line 0)) (AgainstFormat at)

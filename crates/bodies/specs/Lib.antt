@@ -1,0 +1,2 @@
+-- What is kept of the translator's text, as definitions.
+pub mod Keeping

@@ -1,0 +1,2 @@
+-- What a line of the translator's text says, as definitions.
+pub mod Says

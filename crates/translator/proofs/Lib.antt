@@ -1,0 +1,1 @@
+-- What is proved of the reader of the translator's text.

@@ -1,0 +1,256 @@
+-- A text taken in: a line at a time, and in pieces of any length. The first bytes of a line are held, one more than any line has whose rest matters.
+-- Assumes nothing.
+use Prim.Native.Nat.{ℕ, _+_, _*_, _-_, _^_, min}
+use mathlib.Core.Bool.{Bool, cond, _&&_}
+use mathlib.Core.List.{List, [], _∷_, _++_, foldl}
+use lib.Dec.{leb, ltb, eqb}
+use lib.ListN.{length, take, drop, set}
+use Rattle.rules.specs.Limits.{maxVariables, maxGoals, maxActions, maxPairs, maxAction, pairBytes}
+use Rattle.rules.specs.Answers.{judge, demand, inTurn}
+use Rattle.rules.specs.Task.{Pair}
+use Rattle.rules.specs.Text.{lf}
+use Rattle.rules.specs.Calls.{roomRule, lentAfter}
+use Rattle.rules.specs.Format.{shapeOf}
+use Rattle.rules.specs.Translation.{isEnd}
+use Rattle.rules.specs.declared.Refusal.the-variants.{Room, BodyLength, ActionAtFault, AgainstFormat}
+use Rattle.rules.specs.declared.Verdict.{Verdict}
+use Rattle.rules.specs.declared.Verdict.the-variants.{Accepted, Refused}
+use Rattle.rules.specs.declared.FormatLine.{FormatLine}
+use Rattle.rules.specs.declared.FormatLine.the-variants.{BeginVersion, Version, EndVersion, BeginMetric, Metric, EndMetric, VariableCount, BeginVariable, VariableName, AxiomLayer, Range, AtomName, EndVariable, MutexGroupCount, BeginMutexGroup, MutexFactCount, MutexFact, EndMutexGroup, BeginState, StateValue, EndState, BeginGoal, GoalCount, GoalFact, EndGoal, OperatorCount, BeginOperator, OperatorName, PrevailCount, PrevailCondition, EffectCount, Effect, Cost, EndOperator, AxiomCount, EndOfText}
+use Rattle.reader.specs.Bodies.{bodiesRules}
+use Rattle.writer.specs.Laid.{laidOut}
+use Rattle.textlines.specs.Says.{saysAs}
+use Rattle.textlines.specs.declared.OldValue.{OldValue}
+use Rattle.textlines.specs.declared.Numbers.{Numbers}
+use Rattle.textlines.specs.declared.Said.{Said}
+use Rattle.bodies.specs.Keeping.{Keeping, keeps, nothingKept, goalRoom, actionsRoom, keepSize, keepStart, keepGoal, keepPrecondition, keepEffect, keepAction}
+use Rattle.bodies.specs.declared.Kept.{Kept}
+use Rattle.bodies.specs.declared.Excess.{Excess}
+use Rattle.bodies.specs.declared.Excess.the-variants.{Within, Lengths, Actions}
+use Rattle.translator.specs.Position.{firstPosition, lineDue, movedOn}
+use Rattle.translator.specs.declared.position.Position.{Position}
+use Rattle.translator.specs.declared.intake.Intake.{Intake}
+use Rattle.translator.specs.declared.intake.Translation.{Translation}
+
+-- ---- what is lent: a part for each body, and one for the line that has begun
+
+pub record Memory : Type 0 where
+  pub sizes : List ℕ
+  pub start : List ℕ
+  pub goal : List ℕ
+  pub actions : List ℕ
+
+abbrev pub memory : (sizes start goal actions : List ℕ) → Memory
+memory sizes start goal actions = record { sizes = sizes; start = start; goal = goal; actions = actions }
+
+-- what is kept, and where
+pub record KeptBodies : Type 0 where
+  pub kept : Kept
+  pub memory : Memory
+
+abbrev pub keptIn : Kept → Memory → KeptBodies
+keptIn kept m = record { kept = kept; memory = m }
+
+-- ---- what a line adds
+
+abbrev pub inSizes : (Keeping → Keeping) → KeptBodies → KeptBodies
+inSizes f k =
+    let after : Keeping = f (keeps (k .kept) (k .memory .sizes)) in
+    keptIn (after .kept) (memory (after .body) (k .memory .start) (k .memory .goal) (k .memory .actions))
+
+abbrev pub inStart : (Keeping → Keeping) → KeptBodies → KeptBodies
+inStart f k =
+    let after : Keeping = f (keeps (k .kept) (k .memory .start)) in
+    keptIn (after .kept) (memory (k .memory .sizes) (after .body) (k .memory .goal) (k .memory .actions))
+
+abbrev pub inGoal : (Keeping → Keeping) → KeptBodies → KeptBodies
+inGoal f k =
+    let after : Keeping = f (keeps (k .kept) (k .memory .goal)) in
+    keptIn (after .kept) (memory (k .memory .sizes) (k .memory .start) (after .body) (k .memory .actions))
+
+abbrev pub inActions : (Keeping → Keeping) → KeptBodies → KeptBodies
+inActions f k =
+    let after : Keeping = f (keeps (k .kept) (k .memory .actions)) in
+    keptIn (after .kept) (memory (k .memory .sizes) (k .memory .start) (k .memory .goal) (after .body))
+
+abbrev pub pairOf : (variable value : ℕ) → Pair
+pairOf variable value = record { variable = variable; value = value }
+
+-- an old value, unless it is any, is a precondition
+abbrev pub keepOld : ℕ → OldValue → Keeping → Keeping
+keepOld variable OldValue.Any k = k
+keepOld variable (OldValue.Is value) k = keepPrecondition (pairOf variable value) k
+
+abbrev pub keepNumbers : FormatLine → Numbers → KeptBodies → KeptBodies
+keepNumbers BeginVersion said k = k
+keepNumbers Version said k = k
+keepNumbers EndVersion said k = k
+keepNumbers BeginMetric said k = k
+keepNumbers Metric said k = k
+keepNumbers EndMetric said k = k
+keepNumbers VariableCount said k = k
+keepNumbers BeginVariable said k = k
+keepNumbers VariableName said k = k
+keepNumbers AxiomLayer said k = k
+keepNumbers Range said k = inSizes (keepSize (said .first)) k
+keepNumbers AtomName said k = k
+keepNumbers EndVariable said k = k
+keepNumbers MutexGroupCount said k = k
+keepNumbers BeginMutexGroup said k = k
+keepNumbers MutexFactCount said k = k
+keepNumbers MutexFact said k = k
+keepNumbers EndMutexGroup said k = k
+keepNumbers BeginState said k = k
+keepNumbers StateValue said k = inStart (keepStart (said .first)) k
+keepNumbers EndState said k = k
+keepNumbers BeginGoal said k = k
+keepNumbers GoalCount said k = k
+keepNumbers GoalFact said k = inGoal (keepGoal (pairOf (said .first) (said .second))) k
+keepNumbers EndGoal said k = k
+keepNumbers OperatorCount said k = k
+keepNumbers BeginOperator said k = k
+keepNumbers OperatorName said k = k
+keepNumbers PrevailCount said k = k
+keepNumbers PrevailCondition said k = inActions (keepPrecondition (pairOf (said .first) (said .second))) k
+keepNumbers EffectCount said k = k
+keepNumbers Effect said k = inActions (λ a. keepEffect (pairOf (said .first) (said .second)) (keepOld (said .first) (said .old) a)) k
+keepNumbers Cost said k = inActions keepAction k
+keepNumbers EndOperator said k = k
+keepNumbers AxiomCount said k = k
+keepNumbers EndOfText said k = k
+
+unfoldable pub keepLine : FormatLine → Numbers → KeptBodies → KeptBodies
+keepLine due said k = keepNumbers due said k
+
+-- ---- a line
+
+-- a count of lines stays at the largest number that there is
+abbrev pub mostLines : ℕ
+mostLines = 2 ^ 64 - 1
+
+abbrev pub oneMore : ℕ → ℕ
+oneMore lines = min (lines + 1) mostLines
+
+-- how far a reading is, and all that is lent to it
+pub record Taken : Type 0 where
+  pub intake : Intake
+  pub memory : Memory
+  pub line : List ℕ
+
+abbrev pub taken : Intake → Memory → List ℕ → Taken
+taken intake m line = record { intake = intake; memory = m; line = line }
+
+abbrev pub afterLine : Said → (due : FormatLine) → Intake → Memory → List ℕ → Taken
+afterLine (Said.Says said) due i m line =
+    let k : KeptBodies = keepLine due said (keptIn (i .kept) m) in
+    taken
+    (record { position = movedOn due (said .first) (i .position); lines = oneMore (i .lines); verdict = Accepted; kept = k .kept; held = 0 })
+    (k .memory) line
+afterLine (Said.Refused why) due i m line =
+    taken (record { position = i .position; lines = i .lines; verdict = Refused why; kept = i .kept; held = 0 }) m line
+
+-- the first fault ends the reading
+abbrev pub unlessRefused : Verdict → Taken → Taken → Taken
+unlessRefused Accepted next t = next
+unlessRefused (Refused why) next t = t
+
+-- the line that is held ends
+unfoldable pub endLine : Taken → Taken
+endLine t =
+    let i : Intake = t .intake in
+    unlessRefused (i .verdict)
+    (afterLine (saysAs (lineDue (i .position)) (oneMore (i .lines)) (take (i .held) (t .line))) (lineDue (i .position)) i (t .memory) (t .line))
+    t
+
+-- ---- bytes
+
+-- how many bytes of a line are held
+abbrev pub headRoom : ℕ
+headRoom = 32
+
+abbrev pub withHeld : ℕ → Intake → Intake
+withHeld held i = record { position = i .position; lines = i .lines; verdict = i .verdict; kept = i .kept; held = held }
+
+unfoldable pub takeByte : Taken → ℕ → Taken
+takeByte t b =
+    unlessRefused (t .intake .verdict)
+    (cond (eqb b lf) (endLine t)
+    (cond (ltb (t .intake .held) headRoom) (taken (withHeld (t .intake .held + 1) (t .intake)) (t .memory) (set (t .line) (t .intake .held) b)) t))
+    t
+
+unfoldable pub takeAll : Taken → List ℕ → Taken
+takeAll t bytes = foldl takeByte t bytes
+
+-- ---- the calls: a reading that asks for more than there can be is refused for room
+
+unfoldable pub countsFit : Kept → Bool
+countsFit k =
+    leb (k .sizes) maxVariables && leb (k .starts) maxVariables && leb (k .goals) maxGoals && leb (k .actions) maxActions
+    && leb (k .bytes) (maxAction * k .actions) && leb (k .preconditions) maxPairs && leb (k .effects) maxPairs
+
+unfoldable pub lentFits : (sizes start goal actions line : ℕ) → Bool
+lentFits sizes start goal actions line =
+    leb maxVariables sizes && leb maxVariables start && leb goalRoom goal && leb actionsRoom actions && leb headRoom line
+
+unfoldable pub hasRoom : Taken → Bool
+hasRoom t =
+    countsFit (t .intake .kept) && leb (t .intake .held) headRoom
+    && lentFits (length (t .memory .sizes)) (length (t .memory .start)) (length (t .memory .goal)) (length (t .memory .actions)) (length (t .line))
+
+abbrev pub refusedFor : Verdict → Intake → Intake
+refusedFor verdict i = record { position = i .position; lines = i .lines; verdict = verdict; kept = i .kept; held = i .held }
+
+unfoldable pub takeCall : Taken → List ℕ → Taken
+takeCall t bytes = cond (hasRoom t) (takeAll t bytes) (taken (refusedFor (Refused Room) (t .intake)) (t .memory) (t .line))
+
+abbrev pub begun : Intake
+begun = record { position = firstPosition; lines = 0; verdict = Accepted; kept = nothingKept; held = 0 }
+
+-- ---- the end
+
+-- what is held of a last line without LF is a line
+unfoldable pub lastLine : Taken → Taken
+lastLine t = cond (eqb (t .intake .held) 0) t (endLine t)
+
+unfoldable pub rulesKept : Kept → Memory → Verdict
+rulesKept k m =
+    judge (bodiesRules (take (k .sizes) (m .sizes)) (take (k .starts) (m .start)) (take (pairBytes * k .goals) (m .goal)) (take (k .bytes) (m .actions)))
+
+unfoldable pub fileKept : Kept → Memory → List ℕ
+fileKept k m = laidOut (take (k .sizes) (m .sizes)) (take (k .starts) (m .start)) (take (pairBytes * k .goals) (m .goal)) (take (k .bytes) (m .actions))
+
+-- refusals 3 to 7, then 10
+abbrev pub verdictKept : Excess → Kept → Memory → (room : ℕ) → Verdict
+verdictKept Within k m room = inTurn (rulesKept k m) (judge (roomRule (length (fileKept k m)) room))
+verdictKept Lengths k m room = Refused BodyLength
+verdictKept Actions k m room = inTurn (rulesKept k m) (Refused (ActionAtFault (k .actions)))
+
+-- 30 to 32, then those
+unfoldable pub endVerdict : Taken → (room : ℕ) → Verdict
+endVerdict t room =
+    let i : Intake = t .intake in
+    inTurn (i .verdict)
+    (inTurn (judge (demand (isEnd (shapeOf (lineDue (i .position)))) (AgainstFormat (oneMore (i .lines))) ∷ []))
+    (verdictKept (i .kept .excess) (i .kept) (t .memory) room))
+
+abbrev pub translation : Verdict → (length : ℕ) → Translation
+translation Accepted length = Translation.Written length
+translation (Refused why) length = Translation.Refused why
+
+-- the answer, and all that is lent
+pub record Ended : Type 0 where
+  pub answer : Translation
+  pub memory : Memory
+  pub room : List ℕ
+
+abbrev pub ended : Translation → Memory → List ℕ → Ended
+ended answer m room = record { answer = answer; memory = m; room = room }
+
+unfoldable pub endWith : Taken → (room : List ℕ) → Ended
+endWith t room =
+    let v : Verdict = endVerdict t (length room) in
+    let file : List ℕ = fileKept (t .intake .kept) (t .memory) in
+    ended (translation v (length file)) (t .memory) (lentAfter v file room)
+
+unfoldable pub finishCall : Taken → (room : List ℕ) → Ended
+finishCall t room = cond (hasRoom t) (endWith (lastLine t) room) (ended (Translation.Refused Room) (t .memory) room)

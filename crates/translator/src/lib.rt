@@ -1,0 +1,3 @@
+// The translator's text, read in pieces of any length in constant memory, and its task file.
+pub mod intake;
+pub mod position;

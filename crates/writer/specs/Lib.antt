@@ -1,0 +1,2 @@
+-- A task file of four bodies, as a definition.
+pub mod Laid

@@ -1,0 +1,1 @@
+// Writes a task file from its four bodies.
