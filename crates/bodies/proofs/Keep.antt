@@ -13,10 +13,11 @@ use Rattle.rules.specs.Task.{Pair}
 use Rattle.rules.proofs.Bools.{not-true, not-false, clash}
 use Rattle.digits.specs.Over.{over}
 use Rattle.digits.proofs.Overs.{sets-over}
-use Rattle.bodies.specs.Keeping.{Keeping, keeps, Sound, goalRoom, actionsRoom, asByte, withPair, preconditionsAt, effectsAt, oneSize, oneStart, oneGoal, onePrecondition, oneEffect, oneAction, beyond, oneFits, excessWith, noMore, kept, keepSize, keepStart, keepGoal, keepPrecondition, keepEffect, keepAction}
+use Rattle.bodies.specs.Keeping.{Keeping, keeps, Sound, actionsRoom, asByte, withPair, preconditionsAt, effectsAt, oneSize, oneStart, oneGoal, onePrecondition, oneEffect, oneAction, beyond, oneFits, excessWith, noMore, kept, keepSize, keepStart, keepGoal, keepPrecondition, keepEffect, keepAction}
 use Rattle.bodies.specs.declared.Kept.{Kept}
 use Rattle.bodies.specs.declared.Excess.{Excess}
 use Rattle.bodies.specs.declared.Excess.the-variants.{Within, Lengths, Actions}
+use Rattle.bodies.proofs.KeepSound.{counts-room}
 
 -- ---- what was kept of an excess, by the test
 
@@ -74,18 +75,6 @@ module _ (k r : Kept) (s : List ℕ) (b : Bool) (t : not b ≡ true) where
   unfolding keepAction
   action-not-kept f e = ap (λ x. keeps x s) e ∙ none-more k s (k .excess) (k .actions) maxActions Actions _ (sym f ∙ not-true b t) refl
 
-pub no-more-sound : (k : Kept) (excess : Excess) → Sound k → Sound (beyond excess k)
-no-more-sound k excess h =
-    record {
-      sizes = h .sizes;
-      starts = h .starts;
-      goals = h .goals;
-      actions = h .actions;
-      bytes = h .bytes;
-      preconditions = h .preconditions;
-      effects = h .effects;
-    }
-
 -- ---- one more is kept
 
 module _ (k : Kept) (s : List ℕ) (b : Bool) (t : not b ≡ false) where
@@ -123,106 +112,8 @@ module _ (k : Kept) (s : List ℕ) (b : Bool) (t : not b ≡ false) where
   unfolding keepAction
   action-kept f sound room =
       let counts : List ℕ = k .preconditions ∷ k .effects ∷ [] in
-      let below = room-below (k .excess) (k .actions) maxActions b f t in
+      let fit = counts-room k s sound (room-below (k .excess) (k .actions) maxActions b f t) room in
       let one : k .bytes + 1 ≡ suc (k .bytes) = omega arith in
       let written : set (set s (k .bytes) (k .preconditions)) (k .bytes + 1) (k .effects) ≡ over s (k .bytes) counts =
       rw one (sets-over s (k .bytes) counts (omega arith)) in
       rw written (one-more (keeps k s) (k .excess) (k .actions) maxActions Actions _ (sym f ∙ not-false b t))
-
--- ---- no count goes over its limit, and the pairs have room
-
-module _ (k : Kept) (h : Sound k) (b : Bool) (t : not b ≡ false) where
-  pub size-sound : b ≡ oneFits (k .excess) (k .sizes) maxVariables → Sound (oneSize k)
-  size-sound f =
-      let below = room-below (k .excess) (k .sizes) maxVariables b f t in
-      record {
-        sizes = omega arith;
-        starts = h .starts;
-        goals = h .goals;
-        actions = h .actions;
-        bytes = h .bytes;
-        preconditions = h .preconditions;
-        effects = h .effects;
-      }
-
-  pub start-sound : b ≡ oneFits (k .excess) (k .starts) maxVariables → Sound (oneStart k)
-  start-sound f =
-      let below = room-below (k .excess) (k .starts) maxVariables b f t in
-      record {
-        sizes = h .sizes;
-        starts = omega arith;
-        goals = h .goals;
-        actions = h .actions;
-        bytes = h .bytes;
-        preconditions = h .preconditions;
-        effects = h .effects;
-      }
-
-  pub goal-sound : b ≡ oneFits (k .excess) (k .goals) maxGoals → Sound (oneGoal k)
-  goal-sound f =
-      let below = room-below (k .excess) (k .goals) maxGoals b f t in
-      record {
-        sizes = h .sizes;
-        starts = h .starts;
-        goals = omega arith;
-        actions = h .actions;
-        bytes = h .bytes;
-        preconditions = h .preconditions;
-        effects = h .effects;
-      }
-
-  pub precondition-sound : b ≡ oneFits (k .excess) (k .preconditions) maxPairs → Sound (onePrecondition k)
-  precondition-sound f =
-      let below = room-below (k .excess) (k .preconditions) maxPairs b f t in
-      record {
-        sizes = h .sizes;
-        starts = h .starts;
-        goals = h .goals;
-        actions = h .actions;
-        bytes = h .bytes;
-        preconditions = omega arith;
-        effects = h .effects;
-      }
-
-  pub effect-sound : b ≡ oneFits (k .excess) (k .effects) maxPairs → Sound (oneEffect k)
-  effect-sound f =
-      let below = room-below (k .excess) (k .effects) maxPairs b f t in
-      record {
-        sizes = h .sizes;
-        starts = h .starts;
-        goals = h .goals;
-        actions = h .actions;
-        bytes = h .bytes;
-        preconditions = h .preconditions;
-        effects = omega arith;
-      }
-
-  pub action-sound : b ≡ oneFits (k .excess) (k .actions) maxActions → Sound (oneAction k)
-  action-sound f =
-      let below = room-below (k .excess) (k .actions) maxActions b f t in
-      record {
-        sizes = h .sizes;
-        starts = h .starts;
-        goals = h .goals;
-        actions = omega arith;
-        bytes = omega arith;
-        preconditions = omega arith;
-        effects = omega arith;
-      }
-
-  pub size-room : (s : List ℕ) → b ≡ oneFits (k .excess) (k .sizes) maxVariables → maxVariables ≤ length s → k .sizes < length s
-  size-room s f room = omega (arith, room-below (k .excess) (k .sizes) maxVariables b f t)
-
-  pub start-room : (s : List ℕ) → b ≡ oneFits (k .excess) (k .starts) maxVariables → maxVariables ≤ length s → k .starts < length s
-  start-room s f room = omega (arith, room-below (k .excess) (k .starts) maxVariables b f t)
-
-  pub goal-room : (s : List ℕ) → b ≡ oneFits (k .excess) (k .goals) maxGoals → goalRoom ≤ length s → 0 + pairBytes * k .goals + 0 + pairBytes ≤ length s
-  goal-room s f room = omega (arith, room-below (k .excess) (k .goals) maxGoals b f t)
-
-  pub precondition-room : (s : List ℕ) → b ≡ oneFits (k .excess) (k .preconditions) maxPairs → actionsRoom ≤ length s
-      → preconditionsAt k + pairBytes * k .preconditions + pairBytes * k .effects + pairBytes ≤ length s
-  precondition-room s f room = omega (arith, room-below (k .excess) (k .preconditions) maxPairs b f t)
-
-  pub effect-room : (s : List ℕ) → b ≡ oneFits (k .excess) (k .effects) maxPairs → actionsRoom ≤ length s
-      → effectsAt k + pairBytes * k .effects + 0 + pairBytes ≤ length s
-  effect-room s f room = omega (arith, room-below (k .excess) (k .effects) maxPairs b f t)

@@ -1,4 +1,7 @@
 -- What is proved of the bodies kept.
-mod InOrderBytes
 mod InOrder
+mod InOrderBytes
+pub mod KeepSound
+pub mod KeepLengths
 mod Keep
+pub mod OneAnswer

@@ -3,7 +3,8 @@
 use native.Mathlib.Omega.{arith}
 use borrow.Author.Needs.{needs}
 use lib.ListN.{length-set}
-use Rattle.bodies.proofs.Keep.{action-not-kept, action-kept, action-sound}
+use Rattle.bodies.proofs.KeepSound.{sound-action}
+use Rattle.bodies.proofs.Keep.{action-not-kept, action-kept, room-below}
 use Rattle.bodies.proofs.keep_action.Statement.{statement}
 use Rattle.bodies.proofs.keep_action.Tie as tie
 
@@ -25,4 +26,4 @@ keep-action-spec =
     (λ c. search needs)
     (λ c. search needs)
     (λ c. search needs)
-    (λ c. search (needs, action-kept, action-sound)))
+    (λ c. search (needs, action-kept, sound-action, room-below)))

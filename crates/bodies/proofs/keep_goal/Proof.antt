@@ -1,7 +1,8 @@
 -- `bodies::keep_goal` meets its contract.
 -- Assumes nothing.
 use borrow.Author.Needs.{needs}
-use Rattle.bodies.proofs.Keep.{goal-not-kept, goal-kept, goal-sound, goal-room}
+use Rattle.bodies.proofs.KeepSound.{sound-goal, goal-room}
+use Rattle.bodies.proofs.Keep.{goal-not-kept, goal-kept, room-below}
 use Rattle.bodies.proofs.keep_goal.Statement.{statement}
 use Rattle.bodies.proofs.keep_goal.Tie as tie
 
@@ -14,7 +15,7 @@ keep-goal-spec =
     (λ c. search (needs, goal-not-kept))
     (λ c κs. search needs)
     (λ c κs. search needs)
-    (λ c κs. search (needs, goal-room))
+    (λ c κs. search (needs, goal-room, room-below))
     (λ c. search needs)
     (λ c. search needs)
-    (λ c. search (needs, goal-kept, goal-sound)))
+    (λ c. search (needs, goal-kept, sound-goal, room-below)))

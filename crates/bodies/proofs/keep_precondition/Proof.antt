@@ -1,7 +1,8 @@
 -- `bodies::keep_precondition` meets its contract.
 -- Assumes nothing.
 use borrow.Author.Needs.{needs}
-use Rattle.bodies.proofs.Keep.{precondition-not-kept, precondition-kept, precondition-sound, precondition-room}
+use Rattle.bodies.proofs.KeepSound.{sound-precondition, precondition-room}
+use Rattle.bodies.proofs.Keep.{precondition-not-kept, precondition-kept, room-below}
 use Rattle.bodies.proofs.keep_precondition.Statement.{statement}
 use Rattle.bodies.proofs.keep_precondition.Tie as tie
 
@@ -16,7 +17,7 @@ keep-precondition-spec =
     (λ c. search needs)
     (λ c κs. search needs)
     (λ c κs. search needs)
-    (λ c κs. search (needs, precondition-room))
+    (λ c κs. search (needs, precondition-room, room-below))
     (λ c. search needs)
     (λ c. search needs)
-    (λ c. search (needs, precondition-kept, precondition-sound)))
+    (λ c. search (needs, precondition-kept, sound-precondition, room-below)))

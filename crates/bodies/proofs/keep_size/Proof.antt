@@ -1,7 +1,8 @@
 -- `bodies::keep_size` meets its contract.
 -- Assumes nothing.
 use borrow.Author.Needs.{needs}
-use Rattle.bodies.proofs.Keep.{size-not-kept, size-kept, size-sound, size-room}
+use Rattle.bodies.proofs.KeepSound.{sound-size, count-room}
+use Rattle.bodies.proofs.Keep.{size-not-kept, size-kept, room-below}
 use Rattle.bodies.proofs.keep_size.Statement.{statement}
 use Rattle.bodies.proofs.keep_size.Tie as tie
 
@@ -13,7 +14,7 @@ keep-size-spec =
     (λ c κs. search needs)
     (λ c. search (needs, size-not-kept))
     (λ c κs. search needs)
-    (λ c. search (needs, size-room))
+    (λ c. search (needs, count-room, room-below))
     (λ c. search needs)
     (λ c. search needs)
-    (λ c. search (needs, size-kept, size-sound)))
+    (λ c. search (needs, size-kept, sound-size, room-below)))

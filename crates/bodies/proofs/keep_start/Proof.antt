@@ -1,7 +1,8 @@
 -- `bodies::keep_start` meets its contract.
 -- Assumes nothing.
 use borrow.Author.Needs.{needs}
-use Rattle.bodies.proofs.Keep.{start-not-kept, start-kept, start-sound, start-room}
+use Rattle.bodies.proofs.KeepSound.{sound-start, count-room}
+use Rattle.bodies.proofs.Keep.{start-not-kept, start-kept, room-below}
 use Rattle.bodies.proofs.keep_start.Statement.{statement}
 use Rattle.bodies.proofs.keep_start.Tie as tie
 
@@ -13,7 +14,7 @@ keep-start-spec =
     (λ c κs. search needs)
     (λ c. search (needs, start-not-kept))
     (λ c κs. search needs)
-    (λ c. search (needs, start-room))
+    (λ c. search (needs, count-room, room-below))
     (λ c. search needs)
     (λ c. search needs)
-    (λ c. search (needs, start-kept, start-sound)))
+    (λ c. search (needs, start-kept, sound-start, room-below)))

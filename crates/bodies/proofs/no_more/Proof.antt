@@ -1,7 +1,8 @@
 -- `bodies::no_more` meets its contract.
 -- Assumes nothing.
 use borrow.Author.Needs.{needs}
-use Rattle.bodies.proofs.Keep.{no-more-is, no-more-sound}
+use Rattle.bodies.proofs.KeepSound.{sound-beyond}
+use Rattle.bodies.proofs.Keep.{no-more-is}
 use Rattle.bodies.proofs.no_more.Statement.{statement}
 use Rattle.bodies.proofs.no_more.Tie as tie
 
@@ -10,4 +11,4 @@ no-more-spec =
     tie.close
     (tie.spec
     (λ c κs. search needs)
-    (λ c. search (needs, no-more-is, no-more-sound)))
+    (λ c. search (needs, no-more-is, sound-beyond)))
