@@ -1,1 +1,2 @@
 -- What is proved of the bodies kept.
+pub mod Alike
