@@ -1,2 +1,3 @@
 -- What is proved of the bodies kept.
 pub mod Alike
+pub mod Judged
