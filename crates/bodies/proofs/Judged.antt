@@ -134,15 +134,23 @@ module _ (T : Task) where
 
 -- ---- the verdict
 
--- what the first two rules say, where they hold
-few-variables : (T : Task) → (leb 1 (n T) && leb (n T) maxVariables && eqb (length (T .start)) (n T) && true && leb (length (T .goal)) maxGoals) ≡ true
-    → n T ≤ maxVariables
-few-variables T h =
-    leb-true _ _
-    (and-right (leb 1 (n T)) (leb (n T) maxVariables)
-    (and-left (leb 1 (n T) && leb (n T) maxVariables) _
-    (and-left (leb 1 (n T) && leb (n T) maxVariables && eqb (length (T .start)) (n T)) true
-    (and-left (leb 1 (n T) && leb (n T) maxVariables && eqb (length (T .start)) (n T) && true) _ h))))
+-- what the first rule says, where it holds
+pub record Fitting (T : Task) : Type 0 where
+  pub variables-few : n T ≤ maxVariables
+  pub start-whole : length (T .start) ≡ n T
+  pub goals-few : length (T .goal) ≤ maxGoals
+
+pub lengths-fit : (T : Task) → (leb 1 (n T) && leb (n T) maxVariables && eqb (length (T .start)) (n T) && true && leb (length (T .goal)) maxGoals) ≡ true
+    → Fitting T
+lengths-fit T h =
+    let whole-ok = and-left (leb 1 (n T) && leb (n T) maxVariables && eqb (length (T .start)) (n T) && true) _ h in
+    let start-ok = and-left (leb 1 (n T) && leb (n T) maxVariables && eqb (length (T .start)) (n T)) true whole-ok in
+    let n-ok = and-left (leb 1 (n T) && leb (n T) maxVariables) _ start-ok in
+    record {
+      variables-few = leb-true _ _ (and-right (leb 1 (n T)) _ n-ok);
+      start-whole = eqb-true _ _ (and-right (leb 1 (n T) && leb (n T) maxVariables) _ start-ok);
+      goals-few = leb-true _ _ (and-right (leb 1 (n T) && leb (n T) maxVariables && eqb (length (T .start)) (n T) && true) _ h);
+    }
 
 -- none is at fault, in both or in neither
 none-alike : (l m : ℕ) (p q : ℕ → Bool) → l ≡ m → first l p ≡ first m q → eqb (first l p) l ≡ eqb (first m q) m
@@ -156,7 +164,7 @@ judged-blurred T =
     judge-alike _ _ _ _
     (and-alike _ _ _ _ (none-alike _ _ (sizeAtFault (blurTask T)) (sizeAtFault T) (same-n T) (sizes-alike T)) (λ fine. ap (λ k. leb k maxValues) (same-S T fine)))
     (ap DomainSize (sizes-alike T)) (λ sizes.
-    let few = few-variables T lengths in
+    let few = lengths-fit T lengths .variables-few in
     let fine = and-left (eqb (first (n T) (sizeAtFault T)) (n T)) _ sizes in
     let starts = starts-alike T fine in
     let goals = pairs-alike T fine few (T .goal) in

@@ -1,3 +1,4 @@
 -- What is proved of the bodies kept.
 pub mod Alike
 pub mod Judged
+pub mod Beyond
