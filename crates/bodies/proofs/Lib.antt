@@ -2,3 +2,4 @@
 pub mod Alike
 pub mod Judged
 pub mod Beyond
+pub mod Held
