@@ -3,3 +3,4 @@ pub mod Alike
 pub mod Judged
 pub mod Beyond
 pub mod Held
+pub mod States
