@@ -7,6 +7,7 @@ use mathlib.Core.Bool.{Bool, true, false}
 use mathlib.Core.List.{List, [], _∷_, _++_, map, append-nil, append-assoc}
 use Prim.Native.Nat.{ℕ, _+_, _-_, _*_, _≤_, _<_, max}
 use native.Mathlib.Omega.{arith}
+use native.Mathlib.Nat.{zero-add}
 use borrow.Author.Tests.{ltb-true, ltb-false}
 use lib.Dec.{ltb}
 use lib.ListN.{length, getD, take, drop, set, length-append, length-map, length-set, length-take, List·getD-append}
@@ -138,6 +139,96 @@ pairs-more count ps s p h =
       held = rw written (held-over s 0 (pairText (putInOrder p ps)) (omega arith));
     }
 
+actions-snoc : (l : List Action) (a : Action) → actionsText (l ++ (a ∷ [])) ≡ actionsText l ++ actionText a
+unfolding joined
+actions-snoc [] a = append-nil (actionText a)
+actions-snoc (b ∷ l) a = ap (λ r. actionText b ++ r) (actions-snoc l a) ∙ sym (append-assoc (actionText b) (actionsText l) (actionText a))
+
+text-counts : (a : Action) (p e : ℕ) → p ≡ length (a .preconditions) → e ≡ length (a .effects)
+    → actionText a ≡ (p ∷ e ∷ []) ++ (pairText (a .preconditions) ++ pairText (a .effects))
+unfolding actionText
+text-counts a p e h k = rw (h, k)
+
+-- a pair more of the action that is being read, or that action itself
+module _ (count bytes preconditions effects : ℕ) (actions : List Action) (reading : Action) (s : List ℕ) (within : bytes + countBytes ≤ length s)
+    (h : ActionsHeld count bytes preconditions effects actions reading s) where
+  precondition-more : (p : Pair)
+      → ActionsHeld count bytes (preconditions + 1) effects actions (record { preconditions = putInOrder p (reading .preconditions); effects = reading .effects })
+      (withPair s (bytes + countBytes) preconditions (pairBytes * effects) p)
+  precondition-more p =
+      let at : ℕ = bytes + countBytes in
+      let ps : List Pair = reading .preconditions in
+      let text : List ℕ = pairText (putInOrder p ps) ++ pairText (reading .effects) in
+      let written : withPair s at preconditions (pairBytes * effects) p ≡ over s at text =
+          pair-put s at ps within (pairText (reading .effects)) p preconditions (pairBytes * effects) (h .preconditions-counted)
+          (omega (arith, h .effects-counted, length-pairText (reading .effects))) (h .pairs-held) in
+      record {
+        counted = h .counted;
+        bytes-counted = h .bytes-counted;
+        preconditions-counted = omega (arith, h .preconditions-counted, length-put p ps);
+        effects-counted = h .effects-counted;
+        held = rw written (held-before s at text 0 (actionsText actions) within (omega (arith, h .bytes-counted)) (h .held));
+        pairs-held = rw written (held-over s at text within);
+      }
+
+  effect-more : (p : Pair) → bytes + countBytes + pairBytes * preconditions ≤ length s
+      → ActionsHeld count bytes preconditions (effects + 1) actions (record { preconditions = reading .preconditions; effects = putInOrder p (reading .effects) })
+      (withPair s (bytes + countBytes + pairBytes * preconditions) effects 0 p)
+  effect-more p fits =
+      let ps : List Pair = reading .effects in
+      let before : List ℕ = pairText (reading .preconditions) in
+      let at : ℕ = bytes + countBytes + length before in
+      let text : List ℕ = pairText (putInOrder p ps) in
+      let place : bytes + countBytes + pairBytes * preconditions ≡ at =
+          omega (arith, h .preconditions-counted, length-pairText (reading .preconditions)) in
+      let here : Held s at (pairText ps) = held-right s (bytes + countBytes) before (pairText ps) (h .pairs-held) in
+      let written : withPair s at effects 0 p ≡ over s at text =
+          pair-put s at ps (omega arith) [] p effects 0 (h .effects-counted) refl (rw append-nil here) ∙ ap (over s at) (append-nil text) in
+      rw (place, written)
+      (record {
+        counted = h .counted;
+        bytes-counted = h .bytes-counted;
+        preconditions-counted = h .preconditions-counted;
+        effects-counted = omega (arith, h .effects-counted, length-put p ps);
+        held = held-before s at text 0 (actionsText actions) (omega arith) (omega (arith, h .bytes-counted)) (h .held);
+        pairs-held =
+            held-both (over s at text) (bytes + countBytes) before text
+            (held-before s at text (bytes + countBytes) before (omega arith) (omega arith) (held-left s (bytes + countBytes) before (pairText ps) (h .pairs-held)))
+            (held-over s at text (omega arith));
+      })
+
+  text-held : Held (over s bytes (preconditions ∷ effects ∷ [])) bytes (actionText reading)
+  text-held =
+      let counts : List ℕ = preconditions ∷ effects ∷ [] in
+      let pairs : List ℕ = pairText (reading .preconditions) ++ pairText (reading .effects) in
+      rw (text-counts reading preconditions effects (h .preconditions-counted) (h .effects-counted))
+      (held-both (over s bytes counts) bytes counts pairs
+      (held-over s bytes counts (omega arith))
+      (held-behind s bytes counts pairs (omega arith) (h .pairs-held)))
+
+  action-more : ActionsHeld (count + 1) (bytes + (countBytes + pairBytes * (preconditions + effects))) 0 0 (actions ++ (reading ∷ [])) noAction
+      (over s bytes (preconditions ∷ effects ∷ []))
+  unfolding pairText forEach
+  action-more =
+      let counts : List ℕ = preconditions ∷ effects ∷ [] in
+      let s′ : List ℕ = over s bytes counts in
+      let joins : actionsText (actions ++ (reading ∷ [])) ≡ actionsText actions ++ actionText reading = actions-snoc actions reading in
+      let long : length (actionsText (actions ++ (reading ∷ []))) ≡ bytes + length (actionText reading) =
+          ap length joins ∙ omega (arith, h .bytes-counted, length-append (actionsText actions) (actionText reading)) in
+      record {
+        counted = omega (arith, h .counted, length-append actions (reading ∷ []));
+        bytes-counted =
+            omega (arith, long, length-actionText reading, h .preconditions-counted, h .effects-counted);
+        preconditions-counted = refl;
+        effects-counted = refl;
+        held =
+            rw joins
+            (held-both s′ 0 (actionsText actions) (actionText reading)
+            (held-before s bytes counts 0 (actionsText actions) (omega arith) (omega (arith, h .bytes-counted)) (h .held))
+            (rw (zero-add (length (actionsText actions)), ← (h .bytes-counted)) text-held));
+        pairs-held = refl;
+      }
+
 -- ---- the four ways of an operation
 
 kept-cases : (P : Keeping → Type 0) (e : Excess) (fits : Bool) (excess : Excess) (k next : Keeping)
@@ -194,6 +285,61 @@ over-not s j b (reading e h) =
 -- what is too long stays so
 long-grown : (T U : Task) → n T ≤ n U → length (T .start) ≤ length (U .start) → length (T .goal) ≤ length (U .goal) → TooLong T → TooLong U
 long-grown T U h k l = ⊎-elim (λ o. inl (omega arith)) (λ o. inr (omega arith))
+
+-- an action over a limit stays so
+module _ (s : Stated) (j : ℕ) where
+  over-within : Over s j → j ≤ A (s .task)
+  over-within (number e l) = omega arith
+  over-within (among l h) = omega arith
+  over-within (reading e h) = omega arith
+
+  over-precondition : (p : Pair) → Over s j → Over (withPrecondition p s) j
+  unfolding withPrecondition
+  over-precondition p (number e l) = number e l
+  over-precondition p (among l h) = among l h
+  over-precondition p (reading e h) = reading e (omega (arith, h, length-put p (s .action .preconditions)))
+
+  over-effect : (p : Pair) → Over s j → Over (withEffect p s) j
+  unfolding withEffect
+  over-effect p (number e l) = number e l
+  over-effect p (among l h) = among l h
+  over-effect p (reading e h) = reading e (omega (arith, h, length-put p (s .action .effects)))
+
+  over-action : Over s j → Over (withAction s) j
+  unfolding withAction
+  over-action (number e l) = number e (omega (arith, length-append (s .task .actions) (s .action ∷ [])))
+  over-action (among l h) =
+      among (omega (arith, length-append (s .task .actions) (s .action ∷ [])))
+      (rw (List·getD-append (s .task .actions) (s .action ∷ []) noAction j l) h)
+  over-action (reading e h) =
+      among (omega (arith, length-append (s .task .actions) (s .action ∷ [])))
+      (rw (e, getD-append-seam (s .task .actions) (s .action) [] noAction) h)
+
+-- what is cut off is all that is added
+cut-all : (T : Task) (j : ℕ) → A T ≤ j → cutTo j T ≡ T
+cut-all T j h = λ i. record { sizes = T .sizes; start = T .start; goal = T .goal; actions = take-all j (T .actions) h i }
+
+cut-action : (s : Stated) (j : ℕ) → j ≤ A (s .task) → cutTo j (blurTask (s .task)) ≡ cutTo j (blurTask (withAction s .task))
+unfolding withAction
+cut-action s j h =
+    rw (map-append blurAction (s .task .actions) (s .action ∷ []),
+    take-append-le j (map blurAction (s .task .actions)) (blurAction (s .action) ∷ []) (omega (arith, length-map (s .task .actions) blurAction)))
+
+module _ (s t : Stated) (c : CutShort s t) where
+  cut-precondition : (p : Pair) → CutShort (withPrecondition p s) t
+  unfolding withPrecondition
+  cut-precondition p = record { task = c .task; over = over-precondition s (A (t .task)) p (c .over) }
+
+  cut-effect : (p : Pair) → CutShort (withEffect p s) t
+  unfolding withEffect
+  cut-effect p = record { task = c .task; over = over-effect s (A (t .task)) p (c .over) }
+
+  cut-next : CutShort (withAction s) t
+  cut-next =
+      record {
+        task = c .task ∙ cut-action s (A (t .task)) (over-within s (A (t .task)) (c .over));
+        over = over-action s (A (t .task)) (c .over);
+      }
 
 module _ (s : Stated) (k : Kept) (sizes start goal actions : List ℕ) (r : States s k sizes start goal actions) where
   abbrev t : Stated
@@ -424,3 +570,178 @@ module _ (s : Stated) (k : Kept) (sizes start goal actions : List ℕ) (r : Stat
         (λ e full. states-beyond (withGoal p s) Lengths o (goal-full e (ltb-false (k .goals) maxGoals full)))
         (λ e. states-same (withGoal p s) o (agrees-lengths (k .excess) _ _ e (goal-long (long-now e))))
         (λ e. over-not s (A (t .task)) b (cut-now e .over))
+
+  -- ---- the action that is being read
+
+  room-left : actionsRoom ≤ length actions → k .bytes + maxAction ≤ length actions
+  room-left room = omega (arith, r .sound .bytes, r .sound .actions)
+
+  -- all actions are kept still
+  cut-none : k .excess ≡ Within → blurTask (t .task) ≡ cutTo (A (t .task)) (blurTask (s .task))
+  cut-none e =
+      ap (λ u. u .task) (alike-now e)
+      ∙ sym (cut-all (blurTask (s .task)) (A (t .task))
+      (omega (arith, length-map (s .task .actions) blurAction, same-actions e, r .actions-held .counted)))
+
+  module _ (p : Pair) where
+    precondition-within : actionsRoom ≤ length actions → k .excess ≡ Within → k .preconditions < maxPairs
+        → States (withPrecondition p s) (onePrecondition k) sizes start goal
+        (withPair actions (preconditionsAt k) (k .preconditions) (pairBytes * k .effects) (bytePair p))
+    unfolding withPrecondition
+    precondition-within room e l =
+        let o : Sound k = r .sound in
+        record {
+          inBytes = withPrecondition (bytePair p) t;
+          sound =
+              record {
+                sizes = o .sizes;
+                starts = o .starts;
+                goals = o .goals;
+                actions = o .actions;
+                bytes = o .bytes;
+                preconditions = omega arith;
+                effects = o .effects;
+              };
+          sizes-held = r .sizes-held;
+          start-held = r .start-held;
+          goal-held = r .goal-held;
+          actions-held =
+              precondition-more (k .actions) (k .bytes) (k .preconditions) (k .effects) (t .task .actions) (t .action) actions
+              (omega (arith, room-left room)) (r .actions-held) (bytePair p);
+          ordered = ordered-precondition s (r .ordered) p;
+          in-bytes-ordered = ordered-precondition t (r .in-bytes-ordered) (bytePair p);
+          agrees = agrees-within (k .excess) _ _ e (alike-precondition t s (r .in-bytes-ordered) (r .ordered) (alike-now e) p);
+        }
+
+    precondition-full : k .excess ≡ Within → maxPairs ≤ k .preconditions → CutShort (withPrecondition p s) t
+    unfolding withPrecondition
+    precondition-full e l =
+        record {
+          task = cut-none e;
+          over =
+              reading (sym (r .actions-held .counted) ∙ same-actions e)
+              (omega (arith, same-preconditions e, length-put p (s .action .preconditions)));
+        }
+
+    precondition-long : TooLong (s .task) → TooLong (withPrecondition p s .task)
+    unfolding withPrecondition
+    precondition-long h = h
+
+    pub states-precondition : actionsRoom ≤ length actions
+        → States (withPrecondition p s) (keepPrecondition p (keeps k actions) .kept) sizes start goal (keepPrecondition p (keeps k actions) .body)
+    unfolding keepPrecondition
+    states-precondition room =
+        let o : Ordered (withPrecondition p s) = ordered-precondition s (r .ordered) p in
+        kept-cases (λ after. States (withPrecondition p s) (after .kept) sizes start goal (after .body)) (k .excess) _ Actions (keeps k actions) _
+        (λ e fits. precondition-within room e (ltb-true (k .preconditions) maxPairs fits))
+        (λ e full. states-beyond (withPrecondition p s) Actions o (precondition-full e (ltb-false (k .preconditions) maxPairs full)))
+        (λ e. states-same (withPrecondition p s) o (agrees-lengths (k .excess) _ _ e (precondition-long (long-now e))))
+        (λ e. states-same (withPrecondition p s) o (agrees-actions (k .excess) _ _ e (cut-precondition s t (cut-now e) p)))
+
+  module _ (p : Pair) where
+    effect-within : actionsRoom ≤ length actions → k .excess ≡ Within → k .effects < maxPairs
+        → States (withEffect p s) (oneEffect k) sizes start goal (withPair actions (effectsAt k) (k .effects) 0 (bytePair p))
+    unfolding withEffect
+    effect-within room e l =
+        let o : Sound k = r .sound in
+        record {
+          inBytes = withEffect (bytePair p) t;
+          sound =
+              record {
+                sizes = o .sizes;
+                starts = o .starts;
+                goals = o .goals;
+                actions = o .actions;
+                bytes = o .bytes;
+                preconditions = o .preconditions;
+                effects = omega arith;
+              };
+          sizes-held = r .sizes-held;
+          start-held = r .start-held;
+          goal-held = r .goal-held;
+          actions-held =
+              effect-more (k .actions) (k .bytes) (k .preconditions) (k .effects) (t .task .actions) (t .action) actions
+              (omega (arith, room-left room)) (r .actions-held) (bytePair p) (omega (arith, room-left room, o .preconditions));
+          ordered = ordered-effect s (r .ordered) p;
+          in-bytes-ordered = ordered-effect t (r .in-bytes-ordered) (bytePair p);
+          agrees = agrees-within (k .excess) _ _ e (alike-effect t s (r .in-bytes-ordered) (r .ordered) (alike-now e) p);
+        }
+
+    effect-full : k .excess ≡ Within → maxPairs ≤ k .effects → CutShort (withEffect p s) t
+    unfolding withEffect
+    effect-full e l =
+        record {
+          task = cut-none e;
+          over =
+              reading (sym (r .actions-held .counted) ∙ same-actions e) (omega (arith, same-effects e, length-put p (s .action .effects)));
+        }
+
+    effect-long : TooLong (s .task) → TooLong (withEffect p s .task)
+    unfolding withEffect
+    effect-long h = h
+
+    pub states-effect : actionsRoom ≤ length actions
+        → States (withEffect p s) (keepEffect p (keeps k actions) .kept) sizes start goal (keepEffect p (keeps k actions) .body)
+    unfolding keepEffect
+    states-effect room =
+        let o : Ordered (withEffect p s) = ordered-effect s (r .ordered) p in
+        kept-cases (λ after. States (withEffect p s) (after .kept) sizes start goal (after .body)) (k .excess) _ Actions (keeps k actions) _
+        (λ e fits. effect-within room e (ltb-true (k .effects) maxPairs fits))
+        (λ e full. states-beyond (withEffect p s) Actions o (effect-full e (ltb-false (k .effects) maxPairs full)))
+        (λ e. states-same (withEffect p s) o (agrees-lengths (k .excess) _ _ e (effect-long (long-now e))))
+        (λ e. states-same (withEffect p s) o (agrees-actions (k .excess) _ _ e (cut-effect s t (cut-now e) p)))
+
+  -- ---- the end of an action
+
+  action-within : actionsRoom ≤ length actions → k .excess ≡ Within → k .actions < maxActions
+      → States (withAction s) (oneAction k) sizes start goal (over actions (k .bytes) (k .preconditions ∷ k .effects ∷ []))
+  unfolding withAction
+  action-within room e l =
+      let o : Sound k = r .sound in
+      record {
+        inBytes = withAction t;
+        sound =
+            record {
+              sizes = o .sizes;
+              starts = o .starts;
+              goals = o .goals;
+              actions = omega arith;
+              bytes = omega (arith, o .bytes, o .preconditions, o .effects);
+              preconditions = omega arith;
+              effects = omega arith;
+            };
+        sizes-held = r .sizes-held;
+        start-held = r .start-held;
+        goal-held = r .goal-held;
+        actions-held =
+            action-more (k .actions) (k .bytes) (k .preconditions) (k .effects) (t .task .actions) (t .action) actions
+            (omega (arith, room-left room)) (r .actions-held);
+        ordered = ordered-action s (r .ordered);
+        in-bytes-ordered = ordered-action t (r .in-bytes-ordered);
+        agrees = agrees-within (k .excess) _ _ e (alike-action t s (r .in-bytes-ordered) (r .ordered) (alike-now e));
+      }
+
+  action-full : k .excess ≡ Within → maxActions ≤ k .actions → CutShort (withAction s) t
+  unfolding withAction
+  action-full e l =
+      let same : A (t .task) ≡ A (s .task) = sym (r .actions-held .counted) ∙ same-actions e in
+      record {
+        task = cut-none e ∙ cut-action s (A (t .task)) (omega arith);
+        over =
+            number (omega (arith, r .sound .actions, r .actions-held .counted)) (omega (arith, length-append (s .task .actions) (s .action ∷ [])));
+      }
+
+  action-long : TooLong (s .task) → TooLong (withAction s .task)
+  unfolding withAction
+  action-long h = h
+
+  pub states-action : actionsRoom ≤ length actions
+      → States (withAction s) (keepAction (keeps k actions) .kept) sizes start goal (keepAction (keeps k actions) .body)
+  unfolding keepAction
+  states-action room =
+      let o : Ordered (withAction s) = ordered-action s (r .ordered) in
+      kept-cases (λ after. States (withAction s) (after .kept) sizes start goal (after .body)) (k .excess) _ Actions (keeps k actions) _
+      (λ e fits. action-within room e (ltb-true (k .actions) maxActions fits))
+      (λ e full. states-beyond (withAction s) Actions o (action-full e (ltb-false (k .actions) maxActions full)))
+      (λ e. states-same (withAction s) o (agrees-lengths (k .excess) _ _ e (action-long (long-now e))))
+      (λ e. states-same (withAction s) o (agrees-actions (k .excess) _ _ e (cut-next s t (cut-now e))))
