@@ -3,4 +3,5 @@ pub mod Alike
 pub mod Judged
 pub mod Beyond
 pub mod Held
+pub mod Lengths
 pub mod States

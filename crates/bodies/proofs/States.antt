@@ -25,6 +25,7 @@ use Rattle.bodies.specs.declared.Excess.the-variants.{Within, Lengths, A
 use Rattle.digits.specs.Over.{over}
 use Rattle.bodies.proofs.Alike.{map-append, length-put, blur, blurAction, blurTask, blurStated, Ordered, ordered-nothing, ordered-size, ordered-start, ordered-goal, ordered-precondition, ordered-effect, ordered-action, alike-size, alike-start, alike-goal, alike-precondition, alike-effect, alike-action}
 use Rattle.bodies.proofs.Beyond.{TooLong, TooMany, cutTo}
+use Rattle.bodies.proofs.Lengths.{kept-cases}
 use Rattle.bodies.proofs.Held.{Held, held-both, held-left, held-right, held-before, held-over, held-behind, held-more, pair-put}
 
 -- ---- what the lent bytes hold
@@ -229,18 +230,7 @@ module _ (count bytes preconditions effects : ℕ) (actions : List Action) (read
         pairs-held = refl;
       }
 
--- ---- the four ways of an operation
-
-kept-cases : (P : Keeping → Type 0) (e : Excess) (fits : Bool) (excess : Excess) (k next : Keeping)
-    → (e ≡ Within → fits ≡ true → P next)
-    → (e ≡ Within → fits ≡ false → P (keeps (beyond excess (k .kept)) (k .body)))
-    → (e ≡ Lengths → P k)
-    → (e ≡ Actions → P k)
-    → P (kept e fits excess k next)
-kept-cases P Within true excess k next within full lengths actions = within refl refl
-kept-cases P Within false excess k next within full lengths actions = full refl refl
-kept-cases P Lengths fits excess k next within full lengths actions = lengths refl
-kept-cases P Actions fits excess k next within full lengths actions = actions refl
+-- ---- beyond a limit
 
 sound-beyond : (k : Kept) (excess : Excess) → Sound k → Sound (beyond excess k)
 sound-beyond k excess o =
