@@ -5,3 +5,4 @@ pub mod Beyond
 pub mod Held
 pub mod Lengths
 pub mod States
+pub mod Verdicts
