@@ -2,17 +2,17 @@
 -- Assumes nothing.
 use mathlib.Core.Path.{_≡_, refl, sym, ap, _∙_}
 use mathlib.Core.Logic.{⊎-elim}
-use mathlib.Core.Bool.{Bool, true, false, cond, not, _&&_}
+use mathlib.Core.Bool.{cond, not}
 use mathlib.Core.List.{List, [], _∷_, _++_, map}
-use Prim.Native.Nat.{ℕ, zero, suc, _+_, _-_, _≤_, _<_, min}
+use Prim.Native.Nat.{ℕ, _+_, _-_, _≤_, _<_}
 use native.Mathlib.Omega.{arith}
-use borrow.Author.Tests.{ltb-true, ltb-false, lt-ltb, le-ltb}
+use borrow.Author.Tests.{lt-ltb, le-ltb}
 use lib.Dec.{ltb}
 use lib.ListN.{length}
 use Rattle.rules.specs.Limits.{byteValues}
 use Rattle.rules.specs.Task.{Pair, Action, Task}
-use Rattle.rules.specs.Format.{Stated, noAction, nothingStated, putInOrder, withSize, withStart, withGoal, withPrecondition, withEffect, withAction}
-use Rattle.rules.proofs.Bools.{either, below-or}
+use Rattle.rules.specs.Format.{Stated, nothingStated, putInOrder, withSize, withStart, withGoal, withPrecondition, withEffect, withAction}
+use Rattle.rules.proofs.Bools.{below-or}
 use Rattle.bodies.specs.Keeping.{asByte, bytePair}
 
 pub map-append : {X Y : Type 0} (f : X → Y) (l r : List X) → map f (l ++ r) ≡ map f l ++ map f r

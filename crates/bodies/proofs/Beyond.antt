@@ -6,14 +6,14 @@ use mathlib.Core.Bool.{Bool, true, false, not, _&&_}
 use mathlib.Core.List.{List, [], _∷_}
 use Prim.Native.Nat.{ℕ, _≤_, _<_, max, min}
 use native.Mathlib.Omega.{arith}
-use borrow.Author.Tests.{lt-leb, ltb-true, le-leb, leb-true, eqb-true, eq-eqb, ne-eqb}
-use lib.Dec.{leb, ltb, eqb}
-use lib.ListN.{length, getD, take, length-take}
+use borrow.Author.Tests.{lt-leb, le-leb, eq-eqb, ne-eqb}
+use lib.Dec.{leb, eqb}
+use lib.ListN.{length, take, length-take}
 use lib.Seq.{getD-take}
 use Rattle.rules.specs.Counting.{first}
 use Rattle.rules.specs.Limits.{maxVariables, maxGoals, maxActions, maxPairs}
 use Rattle.rules.specs.Answers.{Rule, demand, judge, inTurn}
-use Rattle.rules.specs.Task.{Pair, Action, Task, n, A, action, pairAtFault, sizeAtFault, startAtFault, listInOrder, actionInOrder, actionAtFault, taskRules}
+use Rattle.rules.specs.Task.{Action, Task, n, A, action, pairAtFault, sizeAtFault, startAtFault, listInOrder, actionInOrder, actionAtFault, taskRules}
 use Rattle.rules.specs.declared.Refusal.the-variants.{BodyLength, ActionAtFault}
 use Rattle.rules.specs.declared.Verdict.{Verdict}
 use Rattle.rules.specs.declared.Verdict.the-variants.{Refused}

@@ -1,18 +1,17 @@
 -- Stretches of lent bytes: which bytes stand from a place on, and what writing over a part does to them.
 -- Assumes nothing.
-use mathlib.Core.Path.{_≡_, refl, sym, ap, _∙_}
-use mathlib.Core.List.{List, [], _∷_, _++_, append-assoc}
-use Prim.Native.Nat.{ℕ, zero, suc, _+_, _-_, _*_, _≤_, _<_}
+use mathlib.Core.Path.{_≡_, sym, ap, _∙_}
+use mathlib.Core.List.{List, [], _∷_, _++_}
+use Prim.Native.Nat.{ℕ, suc, _+_, _*_, _≤_, _<_}
 use native.Mathlib.Omega.{arith}
 use lib.ListN.{length, take, drop, set, take-append-drop, length-append, length-take, length-drop}
-use lib.Seq.{length-take-le, take-append-seam, drop-append-seam, take-append-le, drop-append-le, drop-append-add, take-take, take-add, drop-drop, drop-at, take-suc-set}
+use lib.Seq.{length-take-le, take-append-seam, drop-append-seam, take-append-le, drop-append-le, take-take, take-add, drop-drop, drop-at, take-suc-set}
 use Rattle.rules.specs.Limits.{pairBytes}
 use Rattle.rules.specs.Task.{Pair}
 use Rattle.rules.specs.File.{pairsAt, pairText}
 use Rattle.rules.specs.Format.{putInOrder}
 use Rattle.rules.proofs.Actions.{length-pairText, pairs-back}
 use Rattle.digits.specs.Over.{over}
-use Rattle.digits.proofs.Overs.{length-over}
 use Rattle.bodies.specs.Keeping.{withPair}
 
 -- from place at on stand these bytes

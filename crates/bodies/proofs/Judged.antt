@@ -2,24 +2,24 @@
 -- Assumes nothing.
 use mathlib.Core.Path.{_≡_, refl, sym, ap, _∙_}
 use mathlib.Core.Logic.{⊎-elim}
-use mathlib.Core.Bool.{Bool, true, false, not, _&&_}
+use mathlib.Core.Bool.{Bool, true, false, _&&_}
 use mathlib.Core.List.{List, [], _∷_, map}
 use Prim.Native.Nat.{ℕ, zero, suc, _-_, _≤_, _<_, min}
 use native.Mathlib.Omega.{arith}
 use borrow.Author.Tests.{ltb-true, lt-ltb, le-ltb, leb-true, le-leb, eqb-true}
 use lib.Dec.{leb, ltb, eqb}
 use lib.ListN.{length, getD, length-map, List·getD-map}
-use Rattle.rules.specs.Counting.{first, sumTo}
+use Rattle.rules.specs.Counting.{first}
 use Rattle.rules.specs.Limits.{maxVariables, maxDomain, maxValues, maxGoals, maxActions, byteValues}
 use Rattle.rules.specs.Answers.{Rule, judge}
-use Rattle.rules.specs.Task.{Pair, Action, Task, n, d, S, A, startValue, pair, action, inside, rises, pairAtFault, sizeAtFault, startAtFault, listInOrder, actionInOrder, actionAtFault, taskRules}
+use Rattle.rules.specs.Task.{Pair, Task, n, d, S, A, startValue, pair, action, inside, rises, pairAtFault, sizeAtFault, startAtFault, listInOrder, actionInOrder, actionAtFault, taskRules}
 use Rattle.rules.proofs.Bools.{either, and-left, and-right, same-truth, below-or, not-false}
 use Rattle.rules.proofs.Counting.{first-ext, none-at, sumTo-ext}
 use Rattle.rules.proofs.Judging.{judge-passed, judge-refused}
 use Rattle.rules.proofs.Valid.{Inside, InOrder, ActionFine, WellFormed}
 use Rattle.rules.specs.declared.Refusal.the-variants.{DomainSize, StartValue, GoalPair, ActionAtFault}
 use Rattle.rules.specs.declared.Verdict.the-variants.{Refused}
-use Rattle.bodies.specs.Keeping.{asByte, bytePair}
+use Rattle.bodies.specs.Keeping.{asByte}
 use Rattle.bodies.proofs.Alike.{blur, blur-near, blur-variable, blurAction, blurTask}
 
 -- rules that hold alike and refuse alike, as long as those before them hold

@@ -1,19 +1,18 @@
 -- The four ways of an operation on what is kept, and no lent body's length is changed by any.
 -- Assumes nothing.
-use mathlib.Core.Path.{_≡_, refl, ap, _∙_}
+use mathlib.Core.Path.{_≡_, refl}
 use mathlib.Core.Bool.{Bool, true, false}
 use mathlib.Core.List.{List, [], _∷_, _++_}
-use Prim.Native.Nat.{ℕ, _+_, _*_, _≤_, _<_}
+use Prim.Native.Nat.{ℕ, _+_, _*_, _≤_}
 use native.Mathlib.Omega.{arith}
 use borrow.Author.Tests.{ltb-true}
 use lib.ListN.{length, take, drop, length-append, length-set, length-take}
-use Rattle.rules.specs.Limits.{maxGoals, maxPairs, maxActions, pairBytes}
+use Rattle.rules.specs.Limits.{maxGoals, maxPairs, pairBytes}
 use Rattle.rules.specs.Task.{Pair}
 use Rattle.rules.specs.File.{pairsAt, pairText}
 use Rattle.rules.specs.Format.{putInOrder}
 use Rattle.rules.proofs.Actions.{length-pairText}
 use Rattle.rules.proofs.PairBytes.{length-pairsAt}
-use Rattle.digits.specs.Over.{over}
 use Rattle.digits.proofs.Overs.{length-over}
 use Rattle.bodies.specs.Keeping.{Keeping, keeps, goalRoom, actionsRoom, Sound, bytePair, withPair, preconditionsAt, effectsAt, beyond, kept, keepSize, keepStart, keepGoal, keepPrecondition, keepEffect, keepAction}
 use Rattle.bodies.specs.declared.Kept.{Kept}

@@ -2,15 +2,13 @@
 -- beyond. Each operation keeps this.
 -- Assumes nothing.
 use mathlib.Core.Path.{_≡_, refl, sym, ap, _∙_}
-use mathlib.Core.Logic.{_⊎_, inl, inr, ⊎-elim}
-use mathlib.Core.Bool.{Bool, true, false}
+use mathlib.Core.Logic.{inl, inr, ⊎-elim}
 use mathlib.Core.List.{List, [], _∷_, _++_, map, append-nil, append-assoc}
-use Prim.Native.Nat.{ℕ, _+_, _-_, _*_, _≤_, _<_, max}
+use Prim.Native.Nat.{ℕ, _+_, _*_, _≤_, _<_}
 use native.Mathlib.Omega.{arith}
 use native.Mathlib.Nat.{zero-add}
 use borrow.Author.Tests.{ltb-true, ltb-false}
-use lib.Dec.{ltb}
-use lib.ListN.{length, getD, take, drop, set, length-append, length-map, length-set, length-take, List·getD-append}
+use lib.ListN.{length, set, length-append, length-map, List·getD-append}
 use lib.Seq.{take-all, take-append-le, getD-append-seam}
 use Rattle.rules.specs.Counting.{forEach, joined}
 use Rattle.rules.specs.Limits.{maxVariables, maxGoals, maxActions, maxPairs, maxAction, pairBytes, countBytes}
@@ -18,7 +16,7 @@ use Rattle.rules.specs.Task.{Pair, Action, Task, n, A, action}
 use Rattle.rules.specs.File.{pairText, actionText}
 use Rattle.rules.specs.Format.{Stated, noAction, nothingStated, putInOrder, withSize, withStart, withGoal, withPrecondition, withEffect, withAction}
 use Rattle.rules.proofs.Actions.{length-pairText, length-actionText}
-use Rattle.bodies.specs.Keeping.{Keeping, keeps, nothingKept, goalRoom, actionsRoom, Sound, asByte, bytePair, withPair, preconditionsAt, effectsAt, beyond, oneSize, oneStart, oneGoal, onePrecondition, oneEffect, oneAction, kept, keepSize, keepStart, keepGoal, keepPrecondition, keepEffect, keepAction}
+use Rattle.bodies.specs.Keeping.{keeps, nothingKept, actionsRoom, Sound, asByte, bytePair, withPair, preconditionsAt, effectsAt, beyond, oneSize, oneStart, oneGoal, onePrecondition, oneEffect, oneAction, kept, keepSize, keepStart, keepGoal, keepPrecondition, keepEffect, keepAction}
 use Rattle.bodies.specs.declared.Kept.{Kept}
 use Rattle.bodies.specs.declared.Excess.{Excess}
 use Rattle.bodies.specs.declared.Excess.the-variants.{Within, Lengths, Actions}

@@ -1,19 +1,18 @@
 -- The verdict on what is kept: it tells the verdict on the task stated, and where that is accepted the bodies kept are those of its file.
 -- Assumes nothing.
-use mathlib.Core.Path.{_≡_, refl, sym, ap, _∙_}
+use mathlib.Core.Path.{_≡_, sym, ap, _∙_}
 use mathlib.Core.Logic.{_⊎_, inl, inr}
 use mathlib.Core.Bool.{Bool, true}
-use mathlib.Core.List.{List, [], _∷_, map}
-use Prim.Native.Nat.{ℕ, _*_, _%_, _/_, _≤_, _<_, max}
+use mathlib.Core.List.{List, [], _∷_}
+use Prim.Native.Nat.{ℕ, _*_, _%_, _<_}
 use native.Mathlib.Omega.{arith}
 use borrow.Author.Tests.{eq-eqb}
 use lib.Dec.{eqb}
 use lib.ListN.{length, take, length-map, List·getD-map}
-use Rattle.rules.specs.Counting.{first}
 use Rattle.rules.specs.Limits.{maxActions, pairBytes}
 use Rattle.rules.specs.Answers.{judge, inTurn}
-use Rattle.rules.specs.Task.{Task, Action, A, action, actionInOrder, actionAtFault, taskRules}
-use Rattle.rules.specs.File.{pairsAt, pairText, actionText, actionIn, rests, isWhole, bodiesOf}
+use Rattle.rules.specs.Task.{Task, Action, A, action, actionAtFault, taskRules}
+use Rattle.rules.specs.File.{pairText, actionText, rests, isWhole, bodiesOf}
 use Rattle.rules.specs.Format.{Stated, noAction}
 use Rattle.rules.specs.declared.Refusal.the-variants.{BodyLength, ActionAtFault}
 use Rattle.rules.specs.declared.Verdict.{Verdict}
@@ -26,7 +25,7 @@ use Rattle.bodies.specs.declared.Kept.{Kept}
 use Rattle.bodies.specs.declared.Excess.the-variants.{Within, Lengths, Actions}
 use Rattle.bodies.proofs.Alike.{blur, blurAction, blurTask, blurStated}
 use Rattle.bodies.proofs.Judged.{judged-blurred, blurred-same}
-use Rattle.bodies.proofs.Beyond.{TooMany, cutTo, judged-long, judged-cut}
+use Rattle.bodies.proofs.Beyond.{TooMany, judged-long, judged-cut}
 use Rattle.bodies.proofs.States.{Over, number, among, reading, CutShort, States, actionsText}
 
 -- ---- a task in bytes
