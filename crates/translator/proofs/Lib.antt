@@ -1,1 +1,3 @@
 -- What is proved of the reader of the translator's text.
+pub mod Stack
+pub mod Simulated
