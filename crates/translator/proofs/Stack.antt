@@ -83,7 +83,7 @@ linesDue p = linesFrom (p .line) (p .inner) (p .outer) (p .variables)
 
 -- ---- its first
 
-more : (left : ℕ) → eqb (suc left) 0 ≡ false
+pub more : (left : ℕ) → eqb (suc left) 0 ≡ false
 more left = ne-eqb (suc left) 0 (λ e. omega arith)
 
 first-from : (line : FormatLine) (i o n : ℕ) → getD (linesFrom line i o n) 0 EndOfText ≡ dueIn line i o
