@@ -13,9 +13,9 @@ use lib.ListN.{length, take, getD}
 use Rattle.rules.specs.Limits.{maxVariables, pairBytes}
 use Rattle.rules.specs.Answers.{judge, inTurn}
 use Rattle.rules.specs.Task.{Pair, taskRules}
-use Rattle.rules.specs.File.{fileOf}
+use Rattle.rules.specs.File.{bodiesOf}
 use Rattle.rules.specs.Format.{Stated, nothingStated, noAction, withSize, withStart, withGoal, withPrecondition, withEffect, withAction, shapeOf, lineRules, lineNumber, numberAt, hasOld, oldFact, newFact, factIn, linesAnnounced, stated}
-use Rattle.rules.specs.Translation.{TextReading, textBegun, shapeDue, lineRead, readTextLine}
+use Rattle.rules.specs.Translation.{TextReading, textBegun, shapeDue, lineRead, readTextLine, isEnd}
 use Rattle.rules.specs.declared.FormatLine.{FormatLine}
 use Rattle.rules.specs.declared.FormatLine.the-variants.{BeginVersion, Version, EndVersion, BeginMetric, Metric, EndMetric, VariableCount, BeginVariable, VariableName, AxiomLayer, Range, AtomName, EndVariable, MutexGroupCount, BeginMutexGroup, MutexFactCount, MutexFact, EndMutexGroup, BeginState, StateValue, EndState, BeginGoal, GoalCount, GoalFact, EndGoal, OperatorCount, BeginOperator, OperatorName, PrevailCount, PrevailCondition, EffectCount, Effect, Cost, EndOperator, AxiomCount, EndOfText}
 use Rattle.rules.specs.declared.Refusal.{Refusal}
@@ -23,6 +23,7 @@ use Rattle.rules.specs.declared.Refusal.the-variants.{BodyLength, ActionAtFault
 use Rattle.rules.specs.declared.Verdict.{Verdict}
 use Rattle.rules.specs.declared.Verdict.the-variants.{Accepted, Refused}
 use Rattle.rules.proofs.Bools.{either, clash}
+use Rattle.reader.specs.Bodies.{bodiesRules}
 use Rattle.textlines.specs.Says.{numbersIn, saidBy, saysAs}
 use Rattle.bodies.specs.Keeping.{keeps, nothingKept, goalRoom, actionsRoom, keepSize, keepStart, keepGoal, keepPrecondition, keepEffect, keepAction, Sound}
 use Rattle.bodies.specs.declared.Kept.{Kept}
@@ -35,7 +36,7 @@ use Rattle.translator.proofs.Stack.{linesDue, more, first-due, saidFirs
 
 -- ---- outside an operator's pairs no action is half read
 
-abbrev halfRead : FormatLine → Bool
+abbrev pub halfRead : FormatLine → Bool
 halfRead BeginVersion = false
 halfRead Version = false
 halfRead EndVersion = false
@@ -131,6 +132,51 @@ between : (p : Position) (text : List ℕ) (s : Stated) → Between (p .line) s
 unfolding lineDue
 between p text s b = between-from (p .line) (p .inner) (p .outer) (p .variables) text s b
 
+-- at the end of a text none is
+end-from : (line : FormatLine) (i o : ℕ) → isEnd (shapeOf (dueIn line i o)) ≡ true → halfRead line ≡ false
+end-from BeginVersion i o e = refl
+end-from Version i o e = refl
+end-from EndVersion i o e = refl
+end-from BeginMetric i o e = refl
+end-from Metric i o e = refl
+end-from EndMetric i o e = refl
+end-from VariableCount i o e = refl
+end-from BeginVariable i o e = refl
+end-from VariableName i o e = refl
+end-from AxiomLayer i o e = refl
+end-from Range i o e = refl
+end-from AtomName i o e = refl
+end-from EndVariable i o e = refl
+end-from MutexGroupCount i o e = refl
+end-from BeginMutexGroup i o e = refl
+end-from MutexFactCount i o e = refl
+end-from MutexFact i o e = refl
+end-from EndMutexGroup i o e = refl
+end-from BeginState i o e = refl
+end-from StateValue i o e = refl
+end-from EndState i o e = refl
+end-from BeginGoal i o e = refl
+end-from GoalCount i o e = refl
+end-from GoalFact i o e = refl
+end-from EndGoal i o e = refl
+end-from OperatorCount i o e = refl
+end-from BeginOperator i o e = refl
+end-from OperatorName i o e = refl
+end-from PrevailCount i o e = refl
+end-from PrevailCondition zero o e = sym e
+end-from PrevailCondition (suc i) o e = sym (rw (more i) at e)
+end-from EffectCount i o e = sym e
+end-from Effect zero o e = sym e
+end-from Effect (suc i) o e = sym (rw (more i) at e)
+end-from Cost i o e = sym e
+end-from EndOperator i o e = refl
+end-from AxiomCount i o e = refl
+end-from EndOfText i o e = refl
+
+pub end-between : (p : Position) (s : Stated) → Between (p .line) s → isEnd (shapeOf (lineDue p)) ≡ true → s .action ≡ noAction
+unfolding lineDue
+end-between p s b e = b (end-from (p .line) (p .inner) (p .outer) e)
+
 -- ---- what is known of the bodies kept
 
 pub record Laws : Type 1 where
@@ -156,6 +202,18 @@ pub record Laws : Type 1 where
       → length (keepPrecondition p (keeps k a) .body) ≡ length a
   pub effect-length : (p : Pair) (k : Kept) (a : List ℕ) → Sound k → actionsRoom ≤ length a → length (keepEffect p (keeps k a) .body) ≡ length a
   pub action-length : (k : Kept) (a : List ℕ) → Sound k → actionsRoom ≤ length a → length (keepAction (keeps k a) .body) ≡ length a
+  pub judged-within : (s : Stated) (k : Kept) (S st g a : List ℕ) → States s k S st g a → k .excess ≡ Within
+      → judge (bodiesRules (take (k .sizes) S) (take (k .starts) st) (take (pairBytes * k .goals) g) (take (k .bytes) a))
+      ≡ judge (taskRules true (λ a. true) (s .task))
+  pub bodies-within : (s : Stated) (k : Kept) (S st g a : List ℕ) → States s k S st g a → k .excess ≡ Within
+      → judge (taskRules true (λ a. true) (s .task)) ≡ Accepted
+      → _≡_ {A = List (List ℕ)} (take (k .sizes) S ∷ take (k .starts) st ∷ take (pairBytes * k .goals) g ∷ take (k .bytes) a ∷ []) (bodiesOf (s .task))
+  pub judged-lengths : (s : Stated) (k : Kept) (S st g a : List ℕ) → States s k S st g a → k .excess ≡ Lengths
+      → judge (taskRules true (λ a. true) (s .task)) ≡ Refused BodyLength
+  pub judged-actions : (s : Stated) (k : Kept) (S st g a : List ℕ) → States s k S st g a → k .excess ≡ Actions → s .action ≡ noAction
+      → judge (taskRules true (λ a. true) (s .task))
+      ≡ inTurn (judge (bodiesRules (take (k .sizes) S) (take (k .starts) st) (take (pairBytes * k .goals) g) (take (k .bytes) a)))
+      (Refused (ActionAtFault (k .actions)))
   pub decided : (due : FormatLine) (at : ℕ) (line : List ℕ) → saysAs due at line ≡ saysAs due at (take headRoom line)
 
 pub unless-accepted : (v : Verdict) (next t : Taken) → v ≡ Accepted → unlessRefused v next t ≡ next
@@ -193,7 +251,7 @@ module _ (L : Laws) where
           actions = h .actions;
         }
 
-    sound : Sound (k .kept)
+    pub sound : Sound (k .kept)
     sound = L .sound s (k .kept) (k .memory .sizes) (k .memory .start) (k .memory .goal) (k .memory .actions) (h .states)
 
     keeps-goal : (p : Pair) → Keeps (withGoal p s) (inGoal (keepGoal p) k)
@@ -250,7 +308,7 @@ module _ (L : Laws) where
       (either (hasOld text))
 
   -- what a line states is kept
-  keeps-line : (due : FormatLine) (text : List ℕ) (s : Stated) (k : KeptBodies) → Keeps s k
+  pub keeps-line : (due : FormatLine) (text : List ℕ) (s : Stated) (k : KeptBodies) → Keeps s k
       → Keeps (stated (shapeOf due) text s) (keepLine due (numbersIn (shapeOf due) text) k)
   unfolding stated keepLine numbersIn
   keeps-line BeginVersion text s k h = h
