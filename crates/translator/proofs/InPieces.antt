@@ -166,7 +166,7 @@ module _ (L : Laws) where
 
   simulates-held : (reading : TextReading) (t : Taken) (held : ℕ) (line : List ℕ) → Simulates L reading t
       → Simulates L reading (taken (withHeld held (t .intake)) (t .memory) line)
-  simulates-held reading t held line h = record { verdict = h .verdict; lines = h .lines; due = h .due; between = h .between; keeps = h .keeps }
+  simulates-held reading t held line h = record { verdict = h .verdict; lines = h .lines; due = h .due; follows = h .follows }
 
   -- where the line that has begun is held, both readings of it and of the bytes behind it go together
   abbrev Read : List ℕ → TextReading → Taken → List ℕ → Type 0

@@ -32,150 +32,182 @@ use Rattle.translator.specs.Position.{firstPosition, dueIn, lineDue, mov
 use Rattle.translator.specs.Intake.{Memory, KeptBodies, keptIn, inSizes, inStart, inGoal, inActions, keepOld, keepLine, mostLines, oneMore, Taken, taken, afterLine, unlessRefused, endLine, headRoom, begun, rulesKept, fileKept}
 use Rattle.translator.specs.declared.position.Position.{Position}
 use Rattle.translator.specs.declared.intake.Intake.{Intake}
-use Rattle.translator.proofs.Stack.{linesDue, more, first-due, saidFirst, moved, no-end}
+use Rattle.translator.proofs.Stack.{linesDue, first-due, saidFirst, moved, no-end}
 
--- ---- outside an operator's pairs no action is half read
+-- ---- where in a text an action can be half read
 
-abbrev pub halfRead : FormatLine → Bool
-halfRead BeginVersion = false
-halfRead Version = false
-halfRead EndVersion = false
-halfRead BeginMetric = false
-halfRead Metric = false
-halfRead EndMetric = false
-halfRead VariableCount = false
-halfRead BeginVariable = false
-halfRead VariableName = false
-halfRead AxiomLayer = false
-halfRead Range = false
-halfRead AtomName = false
-halfRead EndVariable = false
-halfRead MutexGroupCount = false
-halfRead BeginMutexGroup = false
-halfRead MutexFactCount = false
-halfRead MutexFact = false
-halfRead EndMutexGroup = false
-halfRead BeginState = false
-halfRead StateValue = false
-halfRead EndState = false
-halfRead BeginGoal = false
-halfRead GoalCount = false
-halfRead GoalFact = false
-halfRead EndGoal = false
-halfRead OperatorCount = false
-halfRead BeginOperator = false
-halfRead OperatorName = false
-halfRead PrevailCount = false
-halfRead PrevailCondition = true
-halfRead EffectCount = true
-halfRead Effect = true
-halfRead Cost = true
-halfRead EndOperator = false
-halfRead AxiomCount = false
-halfRead EndOfText = false
+pub record BeforeOperators (s : Stated) : Type 0 where
+  pub no-actions : s .task .actions ≡ []
+  pub no-pairs : s .action ≡ noAction
 
-abbrev pub Between : FormatLine → Stated → Type 0
-Between line s = halfRead line ≡ false → s .action ≡ noAction
+pub data Stage : Type 0 where
+  before outside inside : Stage
 
-between-from : (line : FormatLine) (i o n : ℕ) (text : List ℕ) (s : Stated) → Between line s
-    → Between (movedOn (dueIn line i o) (saidFirst (dueIn line i o) text) (record { line = line; inner = i; outer = o; variables = n }) .line)
-    (stated (shapeOf (dueIn line i o)) text s)
-unfolding movedOn stated withSize withStart withGoal withPrecondition withEffect withAction
-between-from BeginVersion i o n text s b = b
-between-from Version i o n text s b = b
-between-from EndVersion i o n text s b = b
-between-from BeginMetric i o n text s b = b
-between-from Metric i o n text s b = b
-between-from EndMetric i o n text s b = b
-between-from VariableCount i o n text s b = b
-between-from BeginVariable i zero n text s b = b
-between-from BeginVariable i (suc o) n text s b = rw (more o) (b)
-between-from VariableName i o n text s b = b
-between-from AxiomLayer i o n text s b = b
-between-from Range i o n text s b = b
-between-from AtomName zero o n text s b = b
-between-from AtomName (suc i) o n text s b = rw (more i) (b)
-between-from EndVariable i o n text s b = b
-between-from MutexGroupCount i o n text s b = b
-between-from BeginMutexGroup i zero n text s b = b
-between-from BeginMutexGroup i (suc o) n text s b = rw (more o) (b)
-between-from MutexFactCount i o n text s b = b
-between-from MutexFact zero o n text s b = b
-between-from MutexFact (suc i) o n text s b = rw (more i) (b)
-between-from EndMutexGroup i o n text s b = b
-between-from BeginState i o n text s b = b
-between-from StateValue zero o n text s b = b
-between-from StateValue (suc i) o n text s b = rw (more i) (b)
-between-from EndState i o n text s b = b
-between-from BeginGoal i o n text s b = b
-between-from GoalCount i o n text s b = b
-between-from GoalFact zero o n text s b = b
-between-from GoalFact (suc i) o n text s b = rw (more i) (b)
-between-from EndGoal i o n text s b = b
-between-from OperatorCount i o n text s b = b
-between-from BeginOperator i zero n text s b = b
-between-from BeginOperator i (suc o) n text s b = rw (more o) (b)
-between-from OperatorName i o n text s b = b
-between-from PrevailCount i o n text s b = λ e. clash refl e
-between-from PrevailCondition zero o n text s b = λ e. clash refl e
-between-from PrevailCondition (suc i) o n text s b = rw (more i) (λ e. clash refl e)
-between-from EffectCount i o n text s b = λ e. clash refl e
-between-from Effect zero o n text s b = λ e. refl
-between-from Effect (suc i) o n text s b = rw (more i) (λ e. clash refl e)
-between-from Cost i o n text s b = λ e. refl
-between-from EndOperator i o n text s b = b
-between-from AxiomCount i o n text s b = b
-between-from EndOfText i o n text s b = b
+abbrev pub stageOf : FormatLine → Stage
+stageOf BeginVersion = before
+stageOf Version = before
+stageOf EndVersion = before
+stageOf BeginMetric = before
+stageOf Metric = before
+stageOf EndMetric = before
+stageOf VariableCount = before
+stageOf BeginVariable = before
+stageOf VariableName = before
+stageOf AxiomLayer = before
+stageOf Range = before
+stageOf AtomName = before
+stageOf EndVariable = before
+stageOf MutexGroupCount = before
+stageOf BeginMutexGroup = before
+stageOf MutexFactCount = before
+stageOf MutexFact = before
+stageOf EndMutexGroup = before
+stageOf BeginState = before
+stageOf StateValue = before
+stageOf EndState = before
+stageOf BeginGoal = before
+stageOf GoalCount = before
+stageOf GoalFact = before
+stageOf EndGoal = before
+stageOf OperatorCount = before
+stageOf BeginOperator = outside
+stageOf OperatorName = outside
+stageOf PrevailCount = outside
+stageOf PrevailCondition = inside
+stageOf EffectCount = inside
+stageOf Effect = inside
+stageOf Cost = inside
+stageOf EndOperator = outside
+stageOf AxiomCount = outside
+stageOf EndOfText = outside
 
-between : (p : Position) (text : List ℕ) (s : Stated) → Between (p .line) s
-    → Between (movedOn (lineDue p) (saidFirst (lineDue p) text) p .line) (stated (shapeOf (lineDue p)) text s)
-unfolding lineDue
-between p text s b = between-from (p .line) (p .inner) (p .outer) (p .variables) text s b
+-- before the operators there is no action; outside an operator's pairs none is half read
+abbrev pub Stands : Stage → Stated → Type 0
+Stands before s = BeforeOperators s
+Stands outside s = s .action ≡ noAction
+Stands inside s = record {}
 
--- at the end of a text none is
-end-from : (line : FormatLine) (i o : ℕ) → isEnd (shapeOf (dueIn line i o)) ≡ true → halfRead line ≡ false
-end-from BeginVersion i o e = refl
-end-from Version i o e = refl
-end-from EndVersion i o e = refl
-end-from BeginMetric i o e = refl
-end-from Metric i o e = refl
-end-from EndMetric i o e = refl
-end-from VariableCount i o e = refl
-end-from BeginVariable i o e = refl
-end-from VariableName i o e = refl
-end-from AxiomLayer i o e = refl
-end-from Range i o e = refl
-end-from AtomName i o e = refl
-end-from EndVariable i o e = refl
-end-from MutexGroupCount i o e = refl
-end-from BeginMutexGroup i o e = refl
-end-from MutexFactCount i o e = refl
-end-from MutexFact i o e = refl
-end-from EndMutexGroup i o e = refl
-end-from BeginState i o e = refl
-end-from StateValue i o e = refl
-end-from EndState i o e = refl
-end-from BeginGoal i o e = refl
-end-from GoalCount i o e = refl
-end-from GoalFact i o e = refl
-end-from EndGoal i o e = refl
-end-from OperatorCount i o e = refl
-end-from BeginOperator i o e = refl
-end-from OperatorName i o e = refl
-end-from PrevailCount i o e = refl
-end-from PrevailCondition zero o e = sym e
-end-from PrevailCondition (suc i) o e = sym (rw (more i) at e)
-end-from EffectCount i o e = sym e
-end-from Effect zero o e = sym e
-end-from Effect (suc i) o e = sym (rw (more i) at e)
-end-from Cost i o e = sym e
-end-from EndOperator i o e = refl
-end-from AxiomCount i o e = refl
-end-from EndOfText i o e = refl
+either-stage : (over : Bool) (again behind : FormatLine) → stageOf behind ≡ stageOf again → stageOf (cond over behind again) ≡ stageOf again
+either-stage true again behind e = e
+either-stage false again behind e = refl
 
-pub end-between : (p : Position) (s : Stated) → Between (p .line) s → isEnd (shapeOf (lineDue p)) ≡ true → s .action ≡ noAction
-unfolding lineDue
-end-between p s b e = b (end-from (p .line) (p .inner) (p .outer) e)
+-- repetitions and the line behind them are of one stage
+stage-due : (line : FormatLine) (i o : ℕ) → stageOf (dueIn line i o) ≡ stageOf line
+stage-due BeginVersion i o = refl
+stage-due Version i o = refl
+stage-due EndVersion i o = refl
+stage-due BeginMetric i o = refl
+stage-due Metric i o = refl
+stage-due EndMetric i o = refl
+stage-due VariableCount i o = refl
+stage-due BeginVariable i o = either-stage (eqb o 0) BeginVariable MutexGroupCount refl
+stage-due VariableName i o = refl
+stage-due AxiomLayer i o = refl
+stage-due Range i o = refl
+stage-due AtomName i o = either-stage (eqb i 0) AtomName EndVariable refl
+stage-due EndVariable i o = refl
+stage-due MutexGroupCount i o = refl
+stage-due BeginMutexGroup i o = either-stage (eqb o 0) BeginMutexGroup BeginState refl
+stage-due MutexFactCount i o = refl
+stage-due MutexFact i o = either-stage (eqb i 0) MutexFact EndMutexGroup refl
+stage-due EndMutexGroup i o = refl
+stage-due BeginState i o = refl
+stage-due StateValue i o = either-stage (eqb i 0) StateValue EndState refl
+stage-due EndState i o = refl
+stage-due BeginGoal i o = refl
+stage-due GoalCount i o = refl
+stage-due GoalFact i o = either-stage (eqb i 0) GoalFact EndGoal refl
+stage-due EndGoal i o = refl
+stage-due OperatorCount i o = refl
+stage-due BeginOperator i o = either-stage (eqb o 0) BeginOperator AxiomCount refl
+stage-due OperatorName i o = refl
+stage-due PrevailCount i o = refl
+stage-due PrevailCondition i o = either-stage (eqb i 0) PrevailCondition EffectCount refl
+stage-due EffectCount i o = refl
+stage-due Effect i o = either-stage (eqb i 0) Effect Cost refl
+stage-due Cost i o = refl
+stage-due EndOperator i o = refl
+stage-due AxiomCount i o = refl
+stage-due EndOfText i o = refl
+
+module _ (p : Position) (m : ℕ) (text : List ℕ) (s : Stated) where
+  stands-line : (due : FormatLine) → isEnd (shapeOf due) ≡ false → Stands (stageOf due) s
+      → Stands (stageOf (movedOn due m p .line)) (stated (shapeOf due) text s)
+  unfolding movedOn stated withSize withStart withGoal withAction
+  stands-line BeginVersion e h = h
+  stands-line Version e h = h
+  stands-line EndVersion e h = h
+  stands-line BeginMetric e h = h
+  stands-line Metric e h = h
+  stands-line EndMetric e h = h
+  stands-line VariableCount e h = h
+  stands-line BeginVariable e h = h
+  stands-line VariableName e h = h
+  stands-line AxiomLayer e h = h
+  stands-line Range e h = record { no-actions = h .no-actions; no-pairs = h .no-pairs }
+  stands-line AtomName e h = h
+  stands-line EndVariable e h = h
+  stands-line MutexGroupCount e h = h
+  stands-line BeginMutexGroup e h = h
+  stands-line MutexFactCount e h = h
+  stands-line MutexFact e h = h
+  stands-line EndMutexGroup e h = h
+  stands-line BeginState e h = h
+  stands-line StateValue e h = record { no-actions = h .no-actions; no-pairs = h .no-pairs }
+  stands-line EndState e h = h
+  stands-line BeginGoal e h = h
+  stands-line GoalCount e h = h
+  stands-line GoalFact e h = record { no-actions = h .no-actions; no-pairs = h .no-pairs }
+  stands-line EndGoal e h = h
+  stands-line OperatorCount e h = h .no-pairs
+  stands-line BeginOperator e h = h
+  stands-line OperatorName e h = h
+  stands-line PrevailCount e h = record {}
+  stands-line PrevailCondition e h = record {}
+  stands-line EffectCount e h = record {}
+  stands-line Effect e h = record {}
+  stands-line Cost e h = refl
+  stands-line EndOperator e h = h
+  stands-line AxiomCount e h = h
+  stands-line EndOfText e h = clash refl e
+
+stands-end : (due : FormatLine) (s : Stated) → isEnd (shapeOf due) ≡ true → Stands (stageOf due) s → s .action ≡ noAction
+stands-end BeginVersion s e h = h .no-pairs
+stands-end Version s e h = h .no-pairs
+stands-end EndVersion s e h = h .no-pairs
+stands-end BeginMetric s e h = h .no-pairs
+stands-end Metric s e h = h .no-pairs
+stands-end EndMetric s e h = h .no-pairs
+stands-end VariableCount s e h = h .no-pairs
+stands-end BeginVariable s e h = h .no-pairs
+stands-end VariableName s e h = h .no-pairs
+stands-end AxiomLayer s e h = h .no-pairs
+stands-end Range s e h = h .no-pairs
+stands-end AtomName s e h = h .no-pairs
+stands-end EndVariable s e h = h .no-pairs
+stands-end MutexGroupCount s e h = h .no-pairs
+stands-end BeginMutexGroup s e h = h .no-pairs
+stands-end MutexFactCount s e h = h .no-pairs
+stands-end MutexFact s e h = h .no-pairs
+stands-end EndMutexGroup s e h = h .no-pairs
+stands-end BeginState s e h = h .no-pairs
+stands-end StateValue s e h = h .no-pairs
+stands-end EndState s e h = h .no-pairs
+stands-end BeginGoal s e h = h .no-pairs
+stands-end GoalCount s e h = h .no-pairs
+stands-end GoalFact s e h = h .no-pairs
+stands-end EndGoal s e h = h .no-pairs
+stands-end OperatorCount s e h = h .no-pairs
+stands-end BeginOperator s e h = h
+stands-end OperatorName s e h = h
+stands-end PrevailCount s e h = h
+stands-end PrevailCondition s e h = clash e refl
+stands-end EffectCount s e h = clash e refl
+stands-end Effect s e h = clash e refl
+stands-end Cost s e h = clash e refl
+stands-end EndOperator s e h = h
+stands-end AxiomCount s e h = h
+stands-end EndOfText s e h = h
 
 -- ---- what is known of the bodies kept
 
@@ -183,11 +215,11 @@ pub record Laws : Type 1 where
   pub States : Stated → Kept → (sizes start goal actions : List ℕ) → Type 0
   pub sound : (s : Stated) (k : Kept) (S st g a : List ℕ) → States s k S st g a → Sound k
   pub nothing : (S st g a : List ℕ) → States nothingStated nothingKept S st g a
-  pub size : (m : ℕ) (s : Stated) (k : Kept) (S st g a : List ℕ) → States s k S st g a → maxVariables ≤ length S
+  pub size : (m : ℕ) (s : Stated) (k : Kept) (S st g a : List ℕ) → States s k S st g a → BeforeOperators s → maxVariables ≤ length S
       → States (withSize m s) (keepSize m (keeps k S) .kept) (keepSize m (keeps k S) .body) st g a
-  pub start : (m : ℕ) (s : Stated) (k : Kept) (S st g a : List ℕ) → States s k S st g a → maxVariables ≤ length st
+  pub start : (m : ℕ) (s : Stated) (k : Kept) (S st g a : List ℕ) → States s k S st g a → BeforeOperators s → maxVariables ≤ length st
       → States (withStart m s) (keepStart m (keeps k st) .kept) S (keepStart m (keeps k st) .body) g a
-  pub goal : (p : Pair) (s : Stated) (k : Kept) (S st g a : List ℕ) → States s k S st g a → goalRoom ≤ length g
+  pub goal : (p : Pair) (s : Stated) (k : Kept) (S st g a : List ℕ) → States s k S st g a → BeforeOperators s → goalRoom ≤ length g
       → States (withGoal p s) (keepGoal p (keeps k g) .kept) S st (keepGoal p (keeps k g) .body) a
   pub precondition : (p : Pair) (s : Stated) (k : Kept) (S st g a : List ℕ) → States s k S st g a → actionsRoom ≤ length a
       → States (withPrecondition p s) (keepPrecondition p (keeps k a) .kept) S st g (keepPrecondition p (keeps k a) .body)
@@ -231,20 +263,20 @@ module _ (L : Laws) where
     pub actions : actionsRoom ≤ length (k .memory .actions)
 
   module _ (s : Stated) (k : KeptBodies) (h : Keeps s k) where
-    keeps-size : (m : ℕ) → Keeps (withSize m s) (inSizes (keepSize m) k)
-    keeps-size m =
+    keeps-size : (m : ℕ) → BeforeOperators s → Keeps (withSize m s) (inSizes (keepSize m) k)
+    keeps-size m b =
         record {
-          states = L .size m s (k .kept) (k .memory .sizes) (k .memory .start) (k .memory .goal) (k .memory .actions) (h .states) (h .sizes);
+          states = L .size m s (k .kept) (k .memory .sizes) (k .memory .start) (k .memory .goal) (k .memory .actions) (h .states) b (h .sizes);
           sizes = omega (arith, h .sizes, L .size-length m (k .kept) (k .memory .sizes));
           start = h .start;
           goal = h .goal;
           actions = h .actions;
         }
 
-    keeps-start : (m : ℕ) → Keeps (withStart m s) (inStart (keepStart m) k)
-    keeps-start m =
+    keeps-start : (m : ℕ) → BeforeOperators s → Keeps (withStart m s) (inStart (keepStart m) k)
+    keeps-start m b =
         record {
-          states = L .start m s (k .kept) (k .memory .sizes) (k .memory .start) (k .memory .goal) (k .memory .actions) (h .states) (h .start);
+          states = L .start m s (k .kept) (k .memory .sizes) (k .memory .start) (k .memory .goal) (k .memory .actions) (h .states) b (h .start);
           sizes = h .sizes;
           start = omega (arith, h .start, L .start-length m (k .kept) (k .memory .start));
           goal = h .goal;
@@ -254,10 +286,10 @@ module _ (L : Laws) where
     pub sound : Sound (k .kept)
     sound = L .sound s (k .kept) (k .memory .sizes) (k .memory .start) (k .memory .goal) (k .memory .actions) (h .states)
 
-    keeps-goal : (p : Pair) → Keeps (withGoal p s) (inGoal (keepGoal p) k)
-    keeps-goal p =
+    keeps-goal : (p : Pair) → BeforeOperators s → Keeps (withGoal p s) (inGoal (keepGoal p) k)
+    keeps-goal p b =
         record {
-          states = L .goal p s (k .kept) (k .memory .sizes) (k .memory .start) (k .memory .goal) (k .memory .actions) (h .states) (h .goal);
+          states = L .goal p s (k .kept) (k .memory .sizes) (k .memory .start) (k .memory .goal) (k .memory .actions) (h .states) b (h .goal);
           sizes = h .sizes;
           start = h .start;
           goal = omega (arith, h .goal, L .goal-length p (k .kept) (k .memory .goal) sound (h .goal));
@@ -308,45 +340,67 @@ module _ (L : Laws) where
       (either (hasOld text))
 
   -- what a line states is kept
-  pub keeps-line : (due : FormatLine) (text : List ℕ) (s : Stated) (k : KeptBodies) → Keeps s k
+  pub keeps-line : (due : FormatLine) (text : List ℕ) (s : Stated) (k : KeptBodies) → Stands (stageOf due) s → Keeps s k
       → Keeps (stated (shapeOf due) text s) (keepLine due (numbersIn (shapeOf due) text) k)
   unfolding stated keepLine numbersIn
-  keeps-line BeginVersion text s k h = h
-  keeps-line Version text s k h = h
-  keeps-line EndVersion text s k h = h
-  keeps-line BeginMetric text s k h = h
-  keeps-line Metric text s k h = h
-  keeps-line EndMetric text s k h = h
-  keeps-line VariableCount text s k h = h
-  keeps-line BeginVariable text s k h = h
-  keeps-line VariableName text s k h = h
-  keeps-line AxiomLayer text s k h = h
-  keeps-line Range text s k h = keeps-size s k h (lineNumber text)
-  keeps-line AtomName text s k h = h
-  keeps-line EndVariable text s k h = h
-  keeps-line MutexGroupCount text s k h = h
-  keeps-line BeginMutexGroup text s k h = h
-  keeps-line MutexFactCount text s k h = h
-  keeps-line MutexFact text s k h = h
-  keeps-line EndMutexGroup text s k h = h
-  keeps-line BeginState text s k h = h
-  keeps-line StateValue text s k h = keeps-start s k h (lineNumber text)
-  keeps-line EndState text s k h = h
-  keeps-line BeginGoal text s k h = h
-  keeps-line GoalCount text s k h = h
-  keeps-line GoalFact text s k h = keeps-goal s k h (factIn text)
-  keeps-line EndGoal text s k h = h
-  keeps-line OperatorCount text s k h = h
-  keeps-line BeginOperator text s k h = h
-  keeps-line OperatorName text s k h = h
-  keeps-line PrevailCount text s k h = h
-  keeps-line PrevailCondition text s k h = keeps-precondition s k h (factIn text)
-  keeps-line EffectCount text s k h = h
-  keeps-line Effect text s k h = keeps-old s k h text
-  keeps-line Cost text s k h = keeps-action s k h
-  keeps-line EndOperator text s k h = h
-  keeps-line AxiomCount text s k h = h
-  keeps-line EndOfText text s k h = h
+  keeps-line BeginVersion text s k b h = h
+  keeps-line Version text s k b h = h
+  keeps-line EndVersion text s k b h = h
+  keeps-line BeginMetric text s k b h = h
+  keeps-line Metric text s k b h = h
+  keeps-line EndMetric text s k b h = h
+  keeps-line VariableCount text s k b h = h
+  keeps-line BeginVariable text s k b h = h
+  keeps-line VariableName text s k b h = h
+  keeps-line AxiomLayer text s k b h = h
+  keeps-line Range text s k b h = keeps-size s k h (lineNumber text) b
+  keeps-line AtomName text s k b h = h
+  keeps-line EndVariable text s k b h = h
+  keeps-line MutexGroupCount text s k b h = h
+  keeps-line BeginMutexGroup text s k b h = h
+  keeps-line MutexFactCount text s k b h = h
+  keeps-line MutexFact text s k b h = h
+  keeps-line EndMutexGroup text s k b h = h
+  keeps-line BeginState text s k b h = h
+  keeps-line StateValue text s k b h = keeps-start s k h (lineNumber text) b
+  keeps-line EndState text s k b h = h
+  keeps-line BeginGoal text s k b h = h
+  keeps-line GoalCount text s k b h = h
+  keeps-line GoalFact text s k b h = keeps-goal s k h (factIn text) b
+  keeps-line EndGoal text s k b h = h
+  keeps-line OperatorCount text s k b h = h
+  keeps-line BeginOperator text s k b h = h
+  keeps-line OperatorName text s k b h = h
+  keeps-line PrevailCount text s k b h = h
+  keeps-line PrevailCondition text s k b h = keeps-precondition s k h (factIn text)
+  keeps-line EffectCount text s k b h = h
+  keeps-line Effect text s k b h = keeps-old s k h text
+  keeps-line Cost text s k b h = keeps-action s k h
+  keeps-line EndOperator text s k b h = h
+  keeps-line AxiomCount text s k b h = h
+  keeps-line EndOfText text s k b h = h
+
+  -- a position, what has been stated up to it, and what is kept
+  pub record Follows (s : Stated) (p : Position) (k : KeptBodies) : Type 0 where
+    pub stands : Stands (stageOf (lineDue p)) s
+    pub keeps : Keeps s k
+
+  stands-next : (s : Stated) (p : Position) → Stands (stageOf (p .line)) s → Stands (stageOf (lineDue p)) s
+  unfolding lineDue
+  stands-next s p h = rw (stage-due (p .line) (p .inner) (p .outer)) h
+
+  pub follows-line : (s : Stated) (p : Position) (k : KeptBodies) (text : List ℕ) → isEnd (shapeOf (lineDue p)) ≡ false → Follows s p k
+      → Follows (stated (shapeOf (lineDue p)) text s) (movedOn (lineDue p) (saidFirst (lineDue p) text) p)
+      (keepLine (lineDue p) (numbersIn (shapeOf (lineDue p)) text) k)
+  follows-line s p k text e f =
+      let due : FormatLine = lineDue p in
+      record {
+        stands = stands-next (stated (shapeOf due) text s) (movedOn due (saidFirst due text) p) (stands-line p (saidFirst due text) text s due e (f .stands));
+        keeps = keeps-line due text s k (f .stands) (f .keeps);
+      }
+
+  pub follows-end : (s : Stated) (p : Position) (k : KeptBodies) → Follows s p k → isEnd (shapeOf (lineDue p)) ≡ true → s .action ≡ noAction
+  follows-end s p k f e = stands-end (lineDue p) s e (f .stands)
 
   -- ---- the two readings
 
@@ -354,8 +408,7 @@ module _ (L : Laws) where
     pub verdict : t .intake .verdict ≡ reading .verdict
     pub lines : t .intake .lines ≡ reading .lines
     pub due : reading .due ≡ linesDue (t .intake .position)
-    pub between : Between (t .intake .position .line) (reading .stated)
-    pub keeps : Keeps (reading .stated) (keptIn (t .intake .kept) (t .memory))
+    pub follows : Follows (reading .stated) (t .intake .position) (keptIn (t .intake .kept) (t .memory))
 
   module _ (reading : TextReading) (t : Taken) (h : Simulates reading t) where
     pub due-next : getD (reading .due) 0 EndOfText ≡ lineDue (t .intake .position)
@@ -370,16 +423,14 @@ module _ (L : Laws) where
         (afterLine (saidBy v (numbersIn (shapeOf (lineDue (t .intake .position))) text)) (lineDue (t .intake .position)) (t .intake) (t .memory) (t .line))
     simulates-said text Accepted l e =
         let p : Position = t .intake .position in
+        let on : isEnd (shapeOf (lineDue p)) ≡ false = no-end (shapeOf (lineDue p)) (suc (reading .lines)) text e in
         record {
           verdict = refl;
           lines = next-line l;
-          due =
-              ap (λ ls. linesAnnounced (shapeOf (lineDue p)) text ++ tail ls) (h .due)
-              ∙ sym (moved p text (no-end (shapeOf (lineDue p)) (suc (reading .lines)) text e));
-          between = between p text (reading .stated) (h .between);
-          keeps = keeps-line (lineDue p) text (reading .stated) (keptIn (t .intake .kept) (t .memory)) (h .keeps);
+          due = ap (λ ls. linesAnnounced (shapeOf (lineDue p)) text ++ tail ls) (h .due) ∙ sym (moved p text on);
+          follows = follows-line (reading .stated) p (keptIn (t .intake .kept) (t .memory)) text on (h .follows);
         }
-    simulates-said text (Refused why) l e = record { verdict = refl; lines = h .lines; due = h .due; between = h .between; keeps = h .keeps }
+    simulates-said text (Refused why) l e = record { verdict = refl; lines = h .lines; due = h .due; follows = h .follows }
 
     -- the first bytes of a line, held, are read as the line
     line-ends : (text : List ℕ) → reading .verdict ≡ Accepted → reading .lines < mostLines → take (t .intake .held) (t .line) ≡ take headRoom text

@@ -37,7 +37,7 @@ use Rattle.translator.specs.Position.{lineDue}
 use Rattle.translator.specs.Intake.{Memory, keptIn, mostLines, oneMore, Taken, taken, afterLine, endLine, headRoom, withHeld, takeByte, takeAll, countsFit, lentFits, hasRoom, takeCall, begun, lastLine, rulesKept, fileKept, verdictKept, endVerdict, translation, Ended, endWith, finishCall}
 use Rattle.translator.specs.declared.position.Position.{Position}
 use Rattle.translator.specs.declared.intake.Intake.{Intake}
-use Rattle.translator.proofs.Simulated.{Laws, unless-accepted, unless-refused, end-between, Keeps, keeps-line, sound, Simulates, due-next, next-line}
+use Rattle.translator.proofs.Simulated.{Laws, unless-accepted, unless-refused, Keeps, sound, Follows, follows-line, follows-end, Simulates, due-next, next-line}
 use Rattle.translator.proofs.InPieces.{taken-in-pieces, taken-nothing, by-verdict, chosen-true, chosen-false, byte-ends, byte-held, byte-passed, all-lines, ahead-first, whole}
 
 -- ---- verdicts in turn
