@@ -1,1 +1,5 @@
 -- What is proved of the reader of the translator's text.
+pub mod Stack
+pub mod Simulated
+pub mod InPieces
+pub mod WholeText
