@@ -34,10 +34,10 @@ module _ (s : List ℕ) (at : ℕ) (x y : List ℕ) where
       let l : List ℕ = drop at s in
       let rest : List ℕ = take (length y) (drop (length x) l) in
       let both : x ++ rest ≡ x ++ y =
-          ap (λ w. w ++ rest) (sym (held-left h))
-          ∙ sym (take-add (length x) (length y) l)
-          ∙ ap (λ k. take k l) (sym (length-append x y))
-          ∙ h in
+      ap (λ w. w ++ rest) (sym (held-left h))
+      ∙ sym (take-add (length x) (length y) l)
+      ∙ ap (λ k. take k l) (sym (length-append x y))
+      ∙ h in
       ap (take (length y)) (sym (drop-drop (length x) at s))
       ∙ sym (drop-append-seam x rest)
       ∙ ap (drop (length x)) both
@@ -88,8 +88,8 @@ module _ (s : List ℕ) (at : ℕ) (ps : List Pair) (within : at ≤ length s) w
       let text : List ℕ = pairText ps in
       let rest : List ℕ = drop (length text) (drop at s) in
       let whole : s ≡ take at s ++ (text ++ rest) =
-          sym (take-append-drop at s)
-          ∙ ap (λ r. take at s ++ r) (sym (take-append-drop (length text) (drop at s)) ∙ ap (λ t. t ++ rest) h) in
+      sym (take-append-drop at s)
+      ∙ ap (λ r. take at s ++ r) (sym (take-append-drop (length text) (drop at s)) ∙ ap (λ t. t ++ rest) h) in
       ap (λ t. pairsAt t at (length ps)) whole
       ∙ pairs-back (take at s) ps rest at (sym (length-take-le at s within))
 

@@ -2,6 +2,7 @@
 -- beyond. Each operation keeps this.
 -- Assumes nothing.
 use mathlib.Core.Path.{_≡_, refl, sym, ap, _∙_}
+use mathlib.Core.Bool.{Bool, true, false}
 use mathlib.Core.Logic.{inl, inr, ⊎-elim}
 use mathlib.Core.List.{List, [], _∷_, _++_, map, append-nil, append-assoc}
 use Prim.Native.Nat.{ℕ, _+_, _*_, _≤_, _<_}
@@ -16,14 +17,14 @@ use Rattle.rules.specs.Task.{Pair, Action, Task, n, A, action}
 use Rattle.rules.specs.File.{pairText, actionText}
 use Rattle.rules.specs.Format.{Stated, noAction, nothingStated, putInOrder, withSize, withStart, withGoal, withPrecondition, withEffect, withAction}
 use Rattle.rules.proofs.Actions.{length-pairText, length-actionText}
-use Rattle.bodies.specs.Keeping.{keeps, nothingKept, actionsRoom, Sound, asByte, bytePair, withPair, preconditionsAt, effectsAt, beyond, oneSize, oneStart, oneGoal, onePrecondition, oneEffect, oneAction, kept, keepSize, keepStart, keepGoal, keepPrecondition, keepEffect, keepAction}
+use Rattle.digits.specs.Over.{over}
+use Rattle.bodies.specs.Keeping.{Keeping, keeps, nothingKept, actionsRoom, Sound, asByte, bytePair, withPair, preconditionsAt, effectsAt, beyond, oneSize, oneStart, oneGoal, onePrecondition, oneEffect, oneAction, kept, keepSize, keepStart, keepGoal, keepPrecondition, keepEffect, keepAction}
 use Rattle.bodies.specs.declared.Kept.{Kept}
 use Rattle.bodies.specs.declared.Excess.{Excess}
 use Rattle.bodies.specs.declared.Excess.the-variants.{Within, Lengths, Actions}
-use Rattle.digits.specs.Over.{over}
 use Rattle.bodies.proofs.Alike.{map-append, length-put, blur, blurAction, blurTask, blurStated, Ordered, ordered-nothing, ordered-size, ordered-start, ordered-goal, ordered-precondition, ordered-effect, ordered-action, alike-size, alike-start, alike-goal, alike-precondition, alike-effect, alike-action}
 use Rattle.bodies.proofs.Beyond.{TooLong, TooMany, cutTo}
-use Rattle.bodies.proofs.Lengths.{kept-cases}
+use Rattle.bodies.proofs.KeepSound.{sound-beyond, sound-size, sound-start, sound-goal, sound-precondition, sound-effect, sound-action}
 use Rattle.bodies.proofs.Held.{Held, held-both, held-left, held-right, held-before, held-over, held-behind, held-more, pair-put}
 
 -- ---- what the lent bytes hold
@@ -132,7 +133,7 @@ numbers-more count numbers s b l h =
 pairs-more : (count : ℕ) (ps : List Pair) (s : List ℕ) (p : Pair) → PairsHeld count ps s → PairsHeld (count + 1) (putInOrder p ps) (withPair s 0 count 0 p)
 pairs-more count ps s p h =
     let written : withPair s 0 count 0 p ≡ over s 0 (pairText (putInOrder p ps)) =
-        pair-put s 0 ps (omega arith) [] p count 0 (h .counted) refl (rw append-nil (h .held)) ∙ ap (over s 0) (append-nil (pairText (putInOrder p ps))) in
+    pair-put s 0 ps (omega arith) [] p count 0 (h .counted) refl (rw append-nil (h .held)) ∙ ap (over s 0) (append-nil (pairText (putInOrder p ps))) in
     record {
       counted = omega (arith, h .counted, length-put p ps);
       held = rw written (held-over s 0 (pairText (putInOrder p ps)) (omega arith));
@@ -159,8 +160,8 @@ module _ (count bytes preconditions effects : ℕ) (actions : List Action) (read
       let ps : List Pair = reading .preconditions in
       let text : List ℕ = pairText (putInOrder p ps) ++ pairText (reading .effects) in
       let written : withPair s at preconditions (pairBytes * effects) p ≡ over s at text =
-          pair-put s at ps within (pairText (reading .effects)) p preconditions (pairBytes * effects) (h .preconditions-counted)
-          (omega (arith, h .effects-counted, length-pairText (reading .effects))) (h .pairs-held) in
+      pair-put s at ps within (pairText (reading .effects)) p preconditions (pairBytes * effects) (h .preconditions-counted)
+      (omega (arith, h .effects-counted, length-pairText (reading .effects))) (h .pairs-held) in
       record {
         counted = h .counted;
         bytes-counted = h .bytes-counted;
@@ -179,10 +180,10 @@ module _ (count bytes preconditions effects : ℕ) (actions : List Action) (read
       let at : ℕ = bytes + countBytes + length before in
       let text : List ℕ = pairText (putInOrder p ps) in
       let place : bytes + countBytes + pairBytes * preconditions ≡ at =
-          omega (arith, h .preconditions-counted, length-pairText (reading .preconditions)) in
+      omega (arith, h .preconditions-counted, length-pairText (reading .preconditions)) in
       let here : Held s at (pairText ps) = held-right s (bytes + countBytes) before (pairText ps) (h .pairs-held) in
       let written : withPair s at effects 0 p ≡ over s at text =
-          pair-put s at ps (omega arith) [] p effects 0 (h .effects-counted) refl (rw append-nil here) ∙ ap (over s at) (append-nil text) in
+      pair-put s at ps (omega arith) [] p effects 0 (h .effects-counted) refl (rw append-nil here) ∙ ap (over s at) (append-nil text) in
       rw (place, written)
       (record {
         counted = h .counted;
@@ -213,7 +214,7 @@ module _ (count bytes preconditions effects : ℕ) (actions : List Action) (read
       let s′ : List ℕ = over s bytes counts in
       let joins : actionsText (actions ++ (reading ∷ [])) ≡ actionsText actions ++ actionText reading = actions-snoc actions reading in
       let long : length (actionsText (actions ++ (reading ∷ []))) ≡ bytes + length (actionText reading) =
-          ap length joins ∙ omega (arith, h .bytes-counted, length-append (actionsText actions) (actionText reading)) in
+      ap length joins ∙ omega (arith, h .bytes-counted, length-append (actionsText actions) (actionText reading)) in
       record {
         counted = omega (arith, h .counted, length-append actions (reading ∷ []));
         bytes-counted =
@@ -228,19 +229,18 @@ module _ (count bytes preconditions effects : ℕ) (actions : List Action) (read
         pairs-held = refl;
       }
 
--- ---- beyond a limit
+-- ---- the four ways of an operation
 
-sound-beyond : (k : Kept) (excess : Excess) → Sound k → Sound (beyond excess k)
-sound-beyond k excess o =
-    record {
-      sizes = o .sizes;
-      starts = o .starts;
-      goals = o .goals;
-      actions = o .actions;
-      bytes = o .bytes;
-      preconditions = o .preconditions;
-      effects = o .effects;
-    }
+kept-cases : (P : Keeping → Type 0) (e : Excess) (fits : Bool) (excess : Excess) (k next : Keeping)
+    → (e ≡ Within → fits ≡ true → P next)
+    → (e ≡ Within → fits ≡ false → P (keeps (beyond excess (k .kept)) (k .body)))
+    → (e ≡ Lengths → P k)
+    → (e ≡ Actions → P k)
+    → P (kept e fits excess k next)
+kept-cases P Within true excess k next within full lengths actions = within refl refl
+kept-cases P Within false excess k next within full lengths actions = full refl refl
+kept-cases P Lengths fits excess k next within full lengths actions = lengths refl
+kept-cases P Actions fits excess k next within full lengths actions = actions refl
 
 -- no operator has begun
 pub record BeforeOperators (s : Stated) : Type 0 where
@@ -262,6 +262,11 @@ module _ (s : Stated) (b : BeforeOperators s) where
   pub before-goal : (p : Pair) → BeforeOperators (withGoal p s)
   unfolding withGoal
   before-goal p = record { no-actions = b .no-actions; no-pairs = b .no-pairs }
+
+-- behind an operator's pairs none is half read
+pub none-half-read : (s : Stated) → withAction s .action ≡ noAction
+unfolding withAction
+none-half-read s = refl
 
 -- an action over a limit has not been met yet
 over-not : {X : Type 0} (s : Stated) (j : ℕ) → BeforeOperators s → Over s j → X
@@ -310,8 +315,10 @@ cut-all T j h = λ i. record { sizes = T .sizes; start = T .start; goal = T .goa
 cut-action : (s : Stated) (j : ℕ) → j ≤ A (s .task) → cutTo j (blurTask (s .task)) ≡ cutTo j (blurTask (withAction s .task))
 unfolding withAction
 cut-action s j h =
-    rw (map-append blurAction (s .task .actions) (s .action ∷ []),
-    take-append-le j (map blurAction (s .task .actions)) (blurAction (s .action) ∷ []) (omega (arith, length-map (s .task .actions) blurAction)))
+    rw (
+      map-append blurAction (s .task .actions) (s .action ∷ []),
+      take-append-le j (map blurAction (s .task .actions)) (blurAction (s .action) ∷ []) (omega (arith, length-map (s .task .actions) blurAction)),
+    )
 
 module _ (s t : Stated) (c : CutShort s t) where
   cut-precondition : (p : Pair) → CutShort (withPrecondition p s) t
@@ -422,19 +429,9 @@ module _ (s : Stated) (k : Kept) (sizes start goal actions : List ℕ) (r : Stat
         → States (withSize m s) (oneSize k) (set sizes (k .sizes) (asByte m)) start goal actions
     unfolding withSize
     size-within room e l =
-        let o : Sound k = r .sound in
         record {
           inBytes = withSize (asByte m) t;
-          sound =
-              record {
-                sizes = omega arith;
-                starts = o .starts;
-                goals = o .goals;
-                actions = o .actions;
-                bytes = o .bytes;
-                preconditions = o .preconditions;
-                effects = o .effects;
-              };
+          sound = sound-size k (r .sound) l;
           sizes-held = numbers-more (k .sizes) (t .task .sizes) sizes (asByte m) (omega arith) (r .sizes-held);
           start-held = r .start-held;
           goal-held = r .goal-held;
@@ -470,19 +467,9 @@ module _ (s : Stated) (k : Kept) (sizes start goal actions : List ℕ) (r : Stat
         → States (withStart m s) (oneStart k) sizes (set start (k .starts) (asByte m)) goal actions
     unfolding withStart
     start-within room e l =
-        let o : Sound k = r .sound in
         record {
           inBytes = withStart (asByte m) t;
-          sound =
-              record {
-                sizes = o .sizes;
-                starts = omega arith;
-                goals = o .goals;
-                actions = o .actions;
-                bytes = o .bytes;
-                preconditions = o .preconditions;
-                effects = o .effects;
-              };
+          sound = sound-start k (r .sound) l;
           sizes-held = r .sizes-held;
           start-held = numbers-more (k .starts) (t .task .start) start (asByte m) (omega arith) (r .start-held);
           goal-held = r .goal-held;
@@ -518,19 +505,9 @@ module _ (s : Stated) (k : Kept) (sizes start goal actions : List ℕ) (r : Stat
         → States (withGoal p s) (oneGoal k) sizes start (withPair goal 0 (k .goals) 0 (bytePair p)) actions
     unfolding withGoal
     goal-within e l =
-        let o : Sound k = r .sound in
         record {
           inBytes = withGoal (bytePair p) t;
-          sound =
-              record {
-                sizes = o .sizes;
-                starts = o .starts;
-                goals = omega arith;
-                actions = o .actions;
-                bytes = o .bytes;
-                preconditions = o .preconditions;
-                effects = o .effects;
-              };
+          sound = sound-goal k (r .sound) l;
           sizes-held = r .sizes-held;
           start-held = r .start-held;
           goal-held = pairs-more (k .goals) (t .task .goal) goal (bytePair p) (r .goal-held);
@@ -577,19 +554,9 @@ module _ (s : Stated) (k : Kept) (sizes start goal actions : List ℕ) (r : Stat
         (withPair actions (preconditionsAt k) (k .preconditions) (pairBytes * k .effects) (bytePair p))
     unfolding withPrecondition
     precondition-within room e l =
-        let o : Sound k = r .sound in
         record {
           inBytes = withPrecondition (bytePair p) t;
-          sound =
-              record {
-                sizes = o .sizes;
-                starts = o .starts;
-                goals = o .goals;
-                actions = o .actions;
-                bytes = o .bytes;
-                preconditions = omega arith;
-                effects = o .effects;
-              };
+          sound = sound-precondition k (r .sound) l;
           sizes-held = r .sizes-held;
           start-held = r .start-held;
           goal-held = r .goal-held;
@@ -631,25 +598,15 @@ module _ (s : Stated) (k : Kept) (sizes start goal actions : List ℕ) (r : Stat
         → States (withEffect p s) (oneEffect k) sizes start goal (withPair actions (effectsAt k) (k .effects) 0 (bytePair p))
     unfolding withEffect
     effect-within room e l =
-        let o : Sound k = r .sound in
         record {
           inBytes = withEffect (bytePair p) t;
-          sound =
-              record {
-                sizes = o .sizes;
-                starts = o .starts;
-                goals = o .goals;
-                actions = o .actions;
-                bytes = o .bytes;
-                preconditions = o .preconditions;
-                effects = omega arith;
-              };
+          sound = sound-effect k (r .sound) l;
           sizes-held = r .sizes-held;
           start-held = r .start-held;
           goal-held = r .goal-held;
           actions-held =
               effect-more (k .actions) (k .bytes) (k .preconditions) (k .effects) (t .task .actions) (t .action) actions
-              (omega (arith, room-left room)) (r .actions-held) (bytePair p) (omega (arith, room-left room, o .preconditions));
+              (omega (arith, room-left room)) (r .actions-held) (bytePair p) (omega (arith, room-left room, r .sound .preconditions));
           ordered = ordered-effect s (r .ordered) p;
           in-bytes-ordered = ordered-effect t (r .in-bytes-ordered) (bytePair p);
           agrees = agrees-within (k .excess) _ _ e (alike-effect t s (r .in-bytes-ordered) (r .ordered) (alike-now e) p);
@@ -685,19 +642,9 @@ module _ (s : Stated) (k : Kept) (sizes start goal actions : List ℕ) (r : Stat
       → States (withAction s) (oneAction k) sizes start goal (over actions (k .bytes) (k .preconditions ∷ k .effects ∷ []))
   unfolding withAction
   action-within room e l =
-      let o : Sound k = r .sound in
       record {
         inBytes = withAction t;
-        sound =
-            record {
-              sizes = o .sizes;
-              starts = o .starts;
-              goals = o .goals;
-              actions = omega arith;
-              bytes = omega (arith, o .bytes, o .preconditions, o .effects);
-              preconditions = omega arith;
-              effects = omega arith;
-            };
+        sound = sound-action k (r .sound) l;
         sizes-held = r .sizes-held;
         start-held = r .start-held;
         goal-held = r .goal-held;
