@@ -49,7 +49,12 @@ module _ (s : List ℕ) (at : ℕ) (x y : List ℕ) where
 before-alike : (p q r : List ℕ) (at : ℕ) (x : List ℕ) → at + length x ≤ length p → take (length x) (drop at (p ++ q)) ≡ take (length x) (drop at (p ++ r))
 before-alike p q r at x h =
     let fits : length x ≤ length (drop at p) = omega (arith, length-drop at p) in
-    rw (drop-append-le at p q (omega arith), drop-append-le at p r (omega arith), take-append-le (length x) (drop at p) q fits, take-append-le (length x) (drop at p) r fits)
+    rw (
+      drop-append-le at p q (omega arith),
+      drop-append-le at p r (omega arith),
+      take-append-le (length x) (drop at p) q fits,
+      take-append-le (length x) (drop at p) r fits,
+    )
 
 module _ (s : List ℕ) (i : ℕ) (y : List ℕ) where
   pub held-before : (at : ℕ) (x : List ℕ) → i ≤ length s → at + length x ≤ i → Held s at x → Held (over s i y) at x

@@ -8,7 +8,7 @@ use native.Mathlib.Nat.{zero-add}
 use lib.ListN.{length, set, length-append}
 use Rattle.rules.specs.Counting.{forEach, joined}
 use Rattle.rules.specs.Limits.{pairBytes, countBytes}
-use Rattle.rules.specs.Task.{Pair, Action, action}
+use Rattle.rules.specs.Task.{Pair, Action}
 use Rattle.rules.specs.File.{pairText, actionText}
 use Rattle.rules.specs.Format.{noAction, putInOrder}
 use Rattle.rules.proofs.Actions.{length-pairText, length-actionText}

@@ -25,7 +25,7 @@ use Rattle.bodies.proofs.Beyond.{TooLong, TooMany, cutTo}
 use Rattle.bodies.proofs.KeepSound.{sound-beyond, sound-size, sound-start, sound-goal, sound-precondition, sound-effect, sound-action}
 use Rattle.bodies.proofs.HeldBodies.{NumbersHeld, PairsHeld, ActionsHeld, numbers-more, pairs-more, precondition-more, effect-more, action-more}
 
--- ---- how that agrees with what has been stated
+-- ---- how a task in bytes agrees with what has been stated
 
 -- why no action from number j on matters: it is one too many, or has too many pairs, perhaps while it is still being read
 pub data Over (s : Stated) (j : ℕ) : Type 0 where
