@@ -14,6 +14,7 @@ use Rattle.rules.specs.Task.{Pair, Action, Task}
 use Rattle.rules.specs.Format.{Stated, nothingStated, putInOrder, withSize, withStart, withGoal, withPrecondition, withEffect, withAction}
 use Rattle.rules.proofs.Bools.{below-or}
 use Rattle.bodies.specs.Keeping.{asByte, bytePair}
+use Rattle.bodies.proofs.InOrder.{put-before, put-behind}
 
 pub map-append : {X Y : Type 0} (f : X → Y) (l r : List X) → map f (l ++ r) ≡ map f l ++ map f r
 map-append f [] r = refl
@@ -61,12 +62,10 @@ Rising m (p ∷ ps) = (m ≤ p .variable) × Rising (p .variable) ps
 
 module _ (p q : Pair) (qs : List Pair) where
   put-here : p .variable < q .variable → putInOrder p (q ∷ qs) ≡ p ∷ q ∷ qs
-  unfolding putInOrder
-  put-here h = rw (lt-ltb _ _ h)
+  put-here h = put-before p q qs (lt-ltb (p .variable) (q .variable) h)
 
   put-later : q .variable ≤ p .variable → putInOrder p (q ∷ qs) ≡ q ∷ putInOrder p qs
-  unfolding putInOrder
-  put-later h = rw (le-ltb _ _ h)
+  put-later h = put-behind p q qs (le-ltb (p .variable) (q .variable) h)
 
 pub length-put : (p : Pair) (ps : List Pair) → length (putInOrder p ps) ≡ length ps + 1
 unfolding putInOrder

@@ -120,7 +120,8 @@ module _ (T : Task) (j : ℕ) (below : j < A T) where
     cut-last =
         ⊎-elim
         (λ l.
-        ap (λ v. inTurn v (Refused (ActionAtFault j))) (judge-refused (lastRule (cutTo j T)) [] (rw (cut-first, cut-A, ne-eqb (first j (fault T)) j (λ e. absurd (omega arith)))))
+        ap (λ v. inTurn v (Refused (ActionAtFault j)))
+        (judge-refused (lastRule (cutTo j T)) [] (rw (cut-first, cut-A, ne-eqb (first j (fault T)) j (λ e. absurd (omega arith)))))
         ∙ ap (λ i. Refused (ActionAtFault (min maxActions i))) (cut-first ∙ sym (cut-fault-before l))
         ∙ sym (judge-refused (lastRule T) [] (rw (cut-fault-before l, ne-eqb (first j (fault T)) (A T) (λ e. absurd (omega arith))))))
         (λ l.

@@ -34,10 +34,10 @@ module _ (s : List ℕ) (at : ℕ) (x y : List ℕ) where
       let l : List ℕ = drop at s in
       let rest : List ℕ = take (length y) (drop (length x) l) in
       let both : x ++ rest ≡ x ++ y =
-          ap (λ w. w ++ rest) (sym (held-left h))
-          ∙ sym (take-add (length x) (length y) l)
-          ∙ ap (λ k. take k l) (sym (length-append x y))
-          ∙ h in
+      ap (λ w. w ++ rest) (sym (held-left h))
+      ∙ sym (take-add (length x) (length y) l)
+      ∙ ap (λ k. take k l) (sym (length-append x y))
+      ∙ h in
       ap (take (length y)) (sym (drop-drop (length x) at s))
       ∙ sym (drop-append-seam x rest)
       ∙ ap (drop (length x)) both
@@ -49,7 +49,12 @@ module _ (s : List ℕ) (at : ℕ) (x y : List ℕ) where
 before-alike : (p q r : List ℕ) (at : ℕ) (x : List ℕ) → at + length x ≤ length p → take (length x) (drop at (p ++ q)) ≡ take (length x) (drop at (p ++ r))
 before-alike p q r at x h =
     let fits : length x ≤ length (drop at p) = omega (arith, length-drop at p) in
-    rw (drop-append-le at p q (omega arith), drop-append-le at p r (omega arith), take-append-le (length x) (drop at p) q fits, take-append-le (length x) (drop at p) r fits)
+    rw (
+      drop-append-le at p q (omega arith),
+      drop-append-le at p r (omega arith),
+      take-append-le (length x) (drop at p) q fits,
+      take-append-le (length x) (drop at p) r fits,
+    )
 
 module _ (s : List ℕ) (i : ℕ) (y : List ℕ) where
   pub held-before : (at : ℕ) (x : List ℕ) → i ≤ length s → at + length x ≤ i → Held s at x → Held (over s i y) at x
@@ -88,8 +93,8 @@ module _ (s : List ℕ) (at : ℕ) (ps : List Pair) (within : at ≤ length s) w
       let text : List ℕ = pairText ps in
       let rest : List ℕ = drop (length text) (drop at s) in
       let whole : s ≡ take at s ++ (text ++ rest) =
-          sym (take-append-drop at s)
-          ∙ ap (λ r. take at s ++ r) (sym (take-append-drop (length text) (drop at s)) ∙ ap (λ t. t ++ rest) h) in
+      sym (take-append-drop at s)
+      ∙ ap (λ r. take at s ++ r) (sym (take-append-drop (length text) (drop at s)) ∙ ap (λ t. t ++ rest) h) in
       ap (λ t. pairsAt t at (length ps)) whole
       ∙ pairs-back (take at s) ps rest at (sym (length-take-le at s within))
 

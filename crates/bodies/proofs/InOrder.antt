@@ -70,11 +70,11 @@ pairs-text s at (suc m) h =
 
 -- ---- in order
 
-put-before : (p q : Pair) (qs : List Pair) → ltb (p .variable) (q .variable) ≡ true → putInOrder p (q ∷ qs) ≡ p ∷ q ∷ qs
+pub put-before : (p q : Pair) (qs : List Pair) → ltb (p .variable) (q .variable) ≡ true → putInOrder p (q ∷ qs) ≡ p ∷ q ∷ qs
 unfolding putInOrder
 put-before p q qs h = rw h
 
-put-behind : (p q : Pair) (qs : List Pair) → ltb (p .variable) (q .variable) ≡ false → putInOrder p (q ∷ qs) ≡ q ∷ putInOrder p qs
+pub put-behind : (p q : Pair) (qs : List Pair) → ltb (p .variable) (q .variable) ≡ false → putInOrder p (q ∷ qs) ≡ q ∷ putInOrder p qs
 unfolding putInOrder
 put-behind p q qs h = rw h
 

@@ -9,6 +9,6 @@ pub mod Alike
 pub mod Judged
 pub mod Beyond
 pub mod Held
-pub mod Lengths
+pub mod HeldBodies
 pub mod States
 pub mod Verdicts

@@ -2,53 +2,30 @@
 -- beyond. Each operation keeps this.
 -- Assumes nothing.
 use mathlib.Core.Path.{_≡_, refl, sym, ap, _∙_}
+use mathlib.Core.Bool.{Bool, true, false}
 use mathlib.Core.Logic.{inl, inr, ⊎-elim}
-use mathlib.Core.List.{List, [], _∷_, _++_, map, append-nil, append-assoc}
+use mathlib.Core.List.{List, [], _∷_, map}
 use Prim.Native.Nat.{ℕ, _+_, _*_, _≤_, _<_}
 use native.Mathlib.Omega.{arith}
-use native.Mathlib.Nat.{zero-add}
 use borrow.Author.Tests.{ltb-true, ltb-false}
 use lib.ListN.{length, set, length-append, length-map, List·getD-append}
 use lib.Seq.{take-all, take-append-le, getD-append-seam}
 use Rattle.rules.specs.Counting.{forEach, joined}
-use Rattle.rules.specs.Limits.{maxVariables, maxGoals, maxActions, maxPairs, maxAction, pairBytes, countBytes}
-use Rattle.rules.specs.Task.{Pair, Action, Task, n, A, action}
-use Rattle.rules.specs.File.{pairText, actionText}
-use Rattle.rules.specs.Format.{Stated, noAction, nothingStated, putInOrder, withSize, withStart, withGoal, withPrecondition, withEffect, withAction}
-use Rattle.rules.proofs.Actions.{length-pairText, length-actionText}
-use Rattle.bodies.specs.Keeping.{keeps, nothingKept, actionsRoom, Sound, asByte, bytePair, withPair, preconditionsAt, effectsAt, beyond, oneSize, oneStart, oneGoal, onePrecondition, oneEffect, oneAction, kept, keepSize, keepStart, keepGoal, keepPrecondition, keepEffect, keepAction}
+use Rattle.rules.specs.Limits.{maxVariables, maxGoals, maxActions, maxPairs, maxAction, pairBytes}
+use Rattle.rules.specs.Task.{Pair, Task, n, A, action}
+use Rattle.rules.specs.File.{pairText}
+use Rattle.rules.specs.Format.{Stated, noAction, nothingStated, withSize, withStart, withGoal, withPrecondition, withEffect, withAction}
+use Rattle.digits.specs.Over.{over}
+use Rattle.bodies.specs.Keeping.{Keeping, keeps, nothingKept, actionsRoom, Sound, asByte, bytePair, withPair, preconditionsAt, effectsAt, beyond, oneSize, oneStart, oneGoal, onePrecondition, oneEffect, oneAction, kept, keepSize, keepStart, keepGoal, keepPrecondition, keepEffect, keepAction}
 use Rattle.bodies.specs.declared.Kept.{Kept}
 use Rattle.bodies.specs.declared.Excess.{Excess}
 use Rattle.bodies.specs.declared.Excess.the-variants.{Within, Lengths, Actions}
-use Rattle.digits.specs.Over.{over}
 use Rattle.bodies.proofs.Alike.{map-append, length-put, blur, blurAction, blurTask, blurStated, Ordered, ordered-nothing, ordered-size, ordered-start, ordered-goal, ordered-precondition, ordered-effect, ordered-action, alike-size, alike-start, alike-goal, alike-precondition, alike-effect, alike-action}
 use Rattle.bodies.proofs.Beyond.{TooLong, TooMany, cutTo}
-use Rattle.bodies.proofs.Lengths.{kept-cases}
-use Rattle.bodies.proofs.Held.{Held, held-both, held-left, held-right, held-before, held-over, held-behind, held-more, pair-put}
+use Rattle.bodies.proofs.KeepSound.{sound-beyond, sound-size, sound-start, sound-goal, sound-precondition, sound-effect, sound-action}
+use Rattle.bodies.proofs.HeldBodies.{NumbersHeld, PairsHeld, ActionsHeld, numbers-more, pairs-more, precondition-more, effect-more, action-more}
 
--- ---- what the lent bytes hold
-
-pub record NumbersHeld (count : ℕ) (numbers : List ℕ) (s : List ℕ) : Type 0 where
-  pub counted : count ≡ length numbers
-  pub held : Held s 0 numbers
-
-pub record PairsHeld (count : ℕ) (ps : List Pair) (s : List ℕ) : Type 0 where
-  pub counted : count ≡ length ps
-  pub held : Held s 0 (pairText ps)
-
-abbrev pub actionsText : List Action → List ℕ
-actionsText l = joined (map actionText l)
-
--- the actions, and behind them, with room for its counts, the pairs of the action that is being read
-pub record ActionsHeld (count bytes preconditions effects : ℕ) (actions : List Action) (reading : Action) (s : List ℕ) : Type 0 where
-  pub counted : count ≡ length actions
-  pub bytes-counted : bytes ≡ length (actionsText actions)
-  pub preconditions-counted : preconditions ≡ length (reading .preconditions)
-  pub effects-counted : effects ≡ length (reading .effects)
-  pub held : Held s 0 (actionsText actions)
-  pub pairs-held : Held s (bytes + countBytes) (pairText (reading .preconditions) ++ pairText (reading .effects))
-
--- ---- how that agrees with what has been stated
+-- ---- how a task in bytes agrees with what has been stated
 
 -- why no action from number j on matters: it is one too many, or has too many pairs, perhaps while it is still being read
 pub data Over (s : Stated) (j : ℕ) : Type 0 where
@@ -119,128 +96,18 @@ states-begun sizes start goal actions =
       agrees = refl;
     }
 
--- one number more
-numbers-more : (count : ℕ) (numbers s : List ℕ) (b : ℕ) → count < length s → NumbersHeld count numbers s
-    → NumbersHeld (count + 1) (numbers ++ (b ∷ [])) (set s count b)
-numbers-more count numbers s b l h =
-    record {
-      counted = omega (arith, h .counted, length-append numbers (b ∷ []));
-      held = held-more s numbers count b (h .counted) l (h .held);
-    }
+-- ---- the four ways of an operation
 
--- one pair more, put in order
-pairs-more : (count : ℕ) (ps : List Pair) (s : List ℕ) (p : Pair) → PairsHeld count ps s → PairsHeld (count + 1) (putInOrder p ps) (withPair s 0 count 0 p)
-pairs-more count ps s p h =
-    let written : withPair s 0 count 0 p ≡ over s 0 (pairText (putInOrder p ps)) =
-        pair-put s 0 ps (omega arith) [] p count 0 (h .counted) refl (rw append-nil (h .held)) ∙ ap (over s 0) (append-nil (pairText (putInOrder p ps))) in
-    record {
-      counted = omega (arith, h .counted, length-put p ps);
-      held = rw written (held-over s 0 (pairText (putInOrder p ps)) (omega arith));
-    }
-
-actions-snoc : (l : List Action) (a : Action) → actionsText (l ++ (a ∷ [])) ≡ actionsText l ++ actionText a
-unfolding joined
-actions-snoc [] a = append-nil (actionText a)
-actions-snoc (b ∷ l) a = ap (λ r. actionText b ++ r) (actions-snoc l a) ∙ sym (append-assoc (actionText b) (actionsText l) (actionText a))
-
-text-counts : (a : Action) (p e : ℕ) → p ≡ length (a .preconditions) → e ≡ length (a .effects)
-    → actionText a ≡ (p ∷ e ∷ []) ++ (pairText (a .preconditions) ++ pairText (a .effects))
-unfolding actionText
-text-counts a p e h k = rw (h, k)
-
--- a pair more of the action that is being read, or that action itself
-module _ (count bytes preconditions effects : ℕ) (actions : List Action) (reading : Action) (s : List ℕ) (within : bytes + countBytes ≤ length s)
-    (h : ActionsHeld count bytes preconditions effects actions reading s) where
-  precondition-more : (p : Pair)
-      → ActionsHeld count bytes (preconditions + 1) effects actions (record { preconditions = putInOrder p (reading .preconditions); effects = reading .effects })
-      (withPair s (bytes + countBytes) preconditions (pairBytes * effects) p)
-  precondition-more p =
-      let at : ℕ = bytes + countBytes in
-      let ps : List Pair = reading .preconditions in
-      let text : List ℕ = pairText (putInOrder p ps) ++ pairText (reading .effects) in
-      let written : withPair s at preconditions (pairBytes * effects) p ≡ over s at text =
-          pair-put s at ps within (pairText (reading .effects)) p preconditions (pairBytes * effects) (h .preconditions-counted)
-          (omega (arith, h .effects-counted, length-pairText (reading .effects))) (h .pairs-held) in
-      record {
-        counted = h .counted;
-        bytes-counted = h .bytes-counted;
-        preconditions-counted = omega (arith, h .preconditions-counted, length-put p ps);
-        effects-counted = h .effects-counted;
-        held = rw written (held-before s at text 0 (actionsText actions) within (omega (arith, h .bytes-counted)) (h .held));
-        pairs-held = rw written (held-over s at text within);
-      }
-
-  effect-more : (p : Pair) → bytes + countBytes + pairBytes * preconditions ≤ length s
-      → ActionsHeld count bytes preconditions (effects + 1) actions (record { preconditions = reading .preconditions; effects = putInOrder p (reading .effects) })
-      (withPair s (bytes + countBytes + pairBytes * preconditions) effects 0 p)
-  effect-more p fits =
-      let ps : List Pair = reading .effects in
-      let before : List ℕ = pairText (reading .preconditions) in
-      let at : ℕ = bytes + countBytes + length before in
-      let text : List ℕ = pairText (putInOrder p ps) in
-      let place : bytes + countBytes + pairBytes * preconditions ≡ at =
-          omega (arith, h .preconditions-counted, length-pairText (reading .preconditions)) in
-      let here : Held s at (pairText ps) = held-right s (bytes + countBytes) before (pairText ps) (h .pairs-held) in
-      let written : withPair s at effects 0 p ≡ over s at text =
-          pair-put s at ps (omega arith) [] p effects 0 (h .effects-counted) refl (rw append-nil here) ∙ ap (over s at) (append-nil text) in
-      rw (place, written)
-      (record {
-        counted = h .counted;
-        bytes-counted = h .bytes-counted;
-        preconditions-counted = h .preconditions-counted;
-        effects-counted = omega (arith, h .effects-counted, length-put p ps);
-        held = held-before s at text 0 (actionsText actions) (omega arith) (omega (arith, h .bytes-counted)) (h .held);
-        pairs-held =
-            held-both (over s at text) (bytes + countBytes) before text
-            (held-before s at text (bytes + countBytes) before (omega arith) (omega arith) (held-left s (bytes + countBytes) before (pairText ps) (h .pairs-held)))
-            (held-over s at text (omega arith));
-      })
-
-  text-held : Held (over s bytes (preconditions ∷ effects ∷ [])) bytes (actionText reading)
-  text-held =
-      let counts : List ℕ = preconditions ∷ effects ∷ [] in
-      let pairs : List ℕ = pairText (reading .preconditions) ++ pairText (reading .effects) in
-      rw (text-counts reading preconditions effects (h .preconditions-counted) (h .effects-counted))
-      (held-both (over s bytes counts) bytes counts pairs
-      (held-over s bytes counts (omega arith))
-      (held-behind s bytes counts pairs (omega arith) (h .pairs-held)))
-
-  action-more : ActionsHeld (count + 1) (bytes + (countBytes + pairBytes * (preconditions + effects))) 0 0 (actions ++ (reading ∷ [])) noAction
-      (over s bytes (preconditions ∷ effects ∷ []))
-  unfolding pairText forEach
-  action-more =
-      let counts : List ℕ = preconditions ∷ effects ∷ [] in
-      let s′ : List ℕ = over s bytes counts in
-      let joins : actionsText (actions ++ (reading ∷ [])) ≡ actionsText actions ++ actionText reading = actions-snoc actions reading in
-      let long : length (actionsText (actions ++ (reading ∷ []))) ≡ bytes + length (actionText reading) =
-          ap length joins ∙ omega (arith, h .bytes-counted, length-append (actionsText actions) (actionText reading)) in
-      record {
-        counted = omega (arith, h .counted, length-append actions (reading ∷ []));
-        bytes-counted =
-            omega (arith, long, length-actionText reading, h .preconditions-counted, h .effects-counted);
-        preconditions-counted = refl;
-        effects-counted = refl;
-        held =
-            rw joins
-            (held-both s′ 0 (actionsText actions) (actionText reading)
-            (held-before s bytes counts 0 (actionsText actions) (omega arith) (omega (arith, h .bytes-counted)) (h .held))
-            (rw (zero-add (length (actionsText actions)), ← (h .bytes-counted)) text-held));
-        pairs-held = refl;
-      }
-
--- ---- beyond a limit
-
-sound-beyond : (k : Kept) (excess : Excess) → Sound k → Sound (beyond excess k)
-sound-beyond k excess o =
-    record {
-      sizes = o .sizes;
-      starts = o .starts;
-      goals = o .goals;
-      actions = o .actions;
-      bytes = o .bytes;
-      preconditions = o .preconditions;
-      effects = o .effects;
-    }
+kept-cases : (P : Keeping → Type 0) (e : Excess) (fits : Bool) (excess : Excess) (k next : Keeping)
+    → (e ≡ Within → fits ≡ true → P next)
+    → (e ≡ Within → fits ≡ false → P (keeps (beyond excess (k .kept)) (k .body)))
+    → (e ≡ Lengths → P k)
+    → (e ≡ Actions → P k)
+    → P (kept e fits excess k next)
+kept-cases P Within true excess k next within full lengths actions = within refl refl
+kept-cases P Within false excess k next within full lengths actions = full refl refl
+kept-cases P Lengths fits excess k next within full lengths actions = lengths refl
+kept-cases P Actions fits excess k next within full lengths actions = actions refl
 
 -- no operator has begun
 pub record BeforeOperators (s : Stated) : Type 0 where
@@ -262,6 +129,11 @@ module _ (s : Stated) (b : BeforeOperators s) where
   pub before-goal : (p : Pair) → BeforeOperators (withGoal p s)
   unfolding withGoal
   before-goal p = record { no-actions = b .no-actions; no-pairs = b .no-pairs }
+
+-- behind an operator's pairs none is half read
+pub none-half-read : (s : Stated) → withAction s .action ≡ noAction
+unfolding withAction
+none-half-read s = refl
 
 -- an action over a limit has not been met yet
 over-not : {X : Type 0} (s : Stated) (j : ℕ) → BeforeOperators s → Over s j → X
@@ -310,8 +182,10 @@ cut-all T j h = λ i. record { sizes = T .sizes; start = T .start; goal = T .goa
 cut-action : (s : Stated) (j : ℕ) → j ≤ A (s .task) → cutTo j (blurTask (s .task)) ≡ cutTo j (blurTask (withAction s .task))
 unfolding withAction
 cut-action s j h =
-    rw (map-append blurAction (s .task .actions) (s .action ∷ []),
-    take-append-le j (map blurAction (s .task .actions)) (blurAction (s .action) ∷ []) (omega (arith, length-map (s .task .actions) blurAction)))
+    rw (
+      map-append blurAction (s .task .actions) (s .action ∷ []),
+      take-append-le j (map blurAction (s .task .actions)) (blurAction (s .action) ∷ []) (omega (arith, length-map (s .task .actions) blurAction)),
+    )
 
 module _ (s t : Stated) (c : CutShort s t) where
   cut-precondition : (p : Pair) → CutShort (withPrecondition p s) t
@@ -422,19 +296,9 @@ module _ (s : Stated) (k : Kept) (sizes start goal actions : List ℕ) (r : Stat
         → States (withSize m s) (oneSize k) (set sizes (k .sizes) (asByte m)) start goal actions
     unfolding withSize
     size-within room e l =
-        let o : Sound k = r .sound in
         record {
           inBytes = withSize (asByte m) t;
-          sound =
-              record {
-                sizes = omega arith;
-                starts = o .starts;
-                goals = o .goals;
-                actions = o .actions;
-                bytes = o .bytes;
-                preconditions = o .preconditions;
-                effects = o .effects;
-              };
+          sound = sound-size k (r .sound) l;
           sizes-held = numbers-more (k .sizes) (t .task .sizes) sizes (asByte m) (omega arith) (r .sizes-held);
           start-held = r .start-held;
           goal-held = r .goal-held;
@@ -470,19 +334,9 @@ module _ (s : Stated) (k : Kept) (sizes start goal actions : List ℕ) (r : Stat
         → States (withStart m s) (oneStart k) sizes (set start (k .starts) (asByte m)) goal actions
     unfolding withStart
     start-within room e l =
-        let o : Sound k = r .sound in
         record {
           inBytes = withStart (asByte m) t;
-          sound =
-              record {
-                sizes = o .sizes;
-                starts = omega arith;
-                goals = o .goals;
-                actions = o .actions;
-                bytes = o .bytes;
-                preconditions = o .preconditions;
-                effects = o .effects;
-              };
+          sound = sound-start k (r .sound) l;
           sizes-held = r .sizes-held;
           start-held = numbers-more (k .starts) (t .task .start) start (asByte m) (omega arith) (r .start-held);
           goal-held = r .goal-held;
@@ -518,19 +372,9 @@ module _ (s : Stated) (k : Kept) (sizes start goal actions : List ℕ) (r : Stat
         → States (withGoal p s) (oneGoal k) sizes start (withPair goal 0 (k .goals) 0 (bytePair p)) actions
     unfolding withGoal
     goal-within e l =
-        let o : Sound k = r .sound in
         record {
           inBytes = withGoal (bytePair p) t;
-          sound =
-              record {
-                sizes = o .sizes;
-                starts = o .starts;
-                goals = omega arith;
-                actions = o .actions;
-                bytes = o .bytes;
-                preconditions = o .preconditions;
-                effects = o .effects;
-              };
+          sound = sound-goal k (r .sound) l;
           sizes-held = r .sizes-held;
           start-held = r .start-held;
           goal-held = pairs-more (k .goals) (t .task .goal) goal (bytePair p) (r .goal-held);
@@ -577,19 +421,9 @@ module _ (s : Stated) (k : Kept) (sizes start goal actions : List ℕ) (r : Stat
         (withPair actions (preconditionsAt k) (k .preconditions) (pairBytes * k .effects) (bytePair p))
     unfolding withPrecondition
     precondition-within room e l =
-        let o : Sound k = r .sound in
         record {
           inBytes = withPrecondition (bytePair p) t;
-          sound =
-              record {
-                sizes = o .sizes;
-                starts = o .starts;
-                goals = o .goals;
-                actions = o .actions;
-                bytes = o .bytes;
-                preconditions = omega arith;
-                effects = o .effects;
-              };
+          sound = sound-precondition k (r .sound) l;
           sizes-held = r .sizes-held;
           start-held = r .start-held;
           goal-held = r .goal-held;
@@ -631,25 +465,15 @@ module _ (s : Stated) (k : Kept) (sizes start goal actions : List ℕ) (r : Stat
         → States (withEffect p s) (oneEffect k) sizes start goal (withPair actions (effectsAt k) (k .effects) 0 (bytePair p))
     unfolding withEffect
     effect-within room e l =
-        let o : Sound k = r .sound in
         record {
           inBytes = withEffect (bytePair p) t;
-          sound =
-              record {
-                sizes = o .sizes;
-                starts = o .starts;
-                goals = o .goals;
-                actions = o .actions;
-                bytes = o .bytes;
-                preconditions = o .preconditions;
-                effects = omega arith;
-              };
+          sound = sound-effect k (r .sound) l;
           sizes-held = r .sizes-held;
           start-held = r .start-held;
           goal-held = r .goal-held;
           actions-held =
               effect-more (k .actions) (k .bytes) (k .preconditions) (k .effects) (t .task .actions) (t .action) actions
-              (omega (arith, room-left room)) (r .actions-held) (bytePair p) (omega (arith, room-left room, o .preconditions));
+              (omega (arith, room-left room)) (r .actions-held) (bytePair p) (omega (arith, room-left room, r .sound .preconditions));
           ordered = ordered-effect s (r .ordered) p;
           in-bytes-ordered = ordered-effect t (r .in-bytes-ordered) (bytePair p);
           agrees = agrees-within (k .excess) _ _ e (alike-effect t s (r .in-bytes-ordered) (r .ordered) (alike-now e) p);
@@ -685,19 +509,9 @@ module _ (s : Stated) (k : Kept) (sizes start goal actions : List ℕ) (r : Stat
       → States (withAction s) (oneAction k) sizes start goal (over actions (k .bytes) (k .preconditions ∷ k .effects ∷ []))
   unfolding withAction
   action-within room e l =
-      let o : Sound k = r .sound in
       record {
         inBytes = withAction t;
-        sound =
-            record {
-              sizes = o .sizes;
-              starts = o .starts;
-              goals = o .goals;
-              actions = omega arith;
-              bytes = omega (arith, o .bytes, o .preconditions, o .effects);
-              preconditions = omega arith;
-              effects = omega arith;
-            };
+        sound = sound-action k (r .sound) l;
         sizes-held = r .sizes-held;
         start-held = r .start-held;
         goal-held = r .goal-held;

@@ -26,7 +26,8 @@ use Rattle.bodies.specs.declared.Excess.the-variants.{Within, Lengths, A
 use Rattle.bodies.proofs.Alike.{blur, blurAction, blurTask, blurStated}
 use Rattle.bodies.proofs.Judged.{judged-blurred, blurred-same}
 use Rattle.bodies.proofs.Beyond.{TooMany, judged-long, judged-cut}
-use Rattle.bodies.proofs.States.{Over, number, among, reading, CutShort, States, actionsText}
+use Rattle.bodies.proofs.HeldBodies.{actionsText}
+use Rattle.bodies.proofs.States.{Over, number, among, reading, CutShort, States}
 
 -- ---- a task in bytes
 
