@@ -75,7 +75,7 @@ impl TextMaker {
     }
 
     fn draft(&mut self, shape: Shape) -> TextDraft {
-        const FAR_ONCE_IN: usize = 5;
+        const FAR_ONCE_IN: usize = 2;
         let size = self.random.weighted(&SIZES);
         let task = crate::draft::draft(&mut self.random, size);
         let mut draft = TextDraft::of(&mut self.random, &task);

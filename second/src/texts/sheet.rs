@@ -44,9 +44,14 @@ const ODD_NAMES: [&[u8]; 22] = [
 ];
 
 impl Sheet {
-    /// The lines of a draft, with names of one style or all kinds of odd ones.
+    /// The lines of a draft, with names of one style; the many names of a far
+    /// range are empty.
     pub fn of(random: &mut Random, draft: &TextDraft) -> Sheet {
-        let names = random.pick(&[Names::Plain, Names::Plain, Names::Empty, Names::Odd]);
+        const FAR: usize = 1 << u16::BITS;
+        let mut names = random.pick(&[Names::Plain, Names::Plain, Names::Empty, Names::Odd]);
+        if draft.ranges.iter().any(|&range| range >= FAR) {
+            names = Names::Empty;
+        }
         let mut writer = Writer { random, names, sheet: Sheet::default() };
         writer.version();
         writer.metric(draft.metric);
