@@ -20,7 +20,7 @@ use streams::*;
 
 const USAGE: &str = "clauses | model | translate | cases SEED COUNT [NAME=VALUE ..] | answer | \
     compare CASES ANSWERS | programs CASES CLAUSES MODEL | tally | pick INDEX | show | input | \
-    texts SEED COUNT [text_bytes=VALUE] | texts-answer | texts-compare CASES ANSWERS | \
+    texts SEED COUNT [text_bytes=VALUE] | texts-sweep | texts-answer | texts-compare CASES ANSWERS | \
     texts-programs CASES TRANSLATE | texts-tally | texts-pick INDEX | texts-show | texts-input | \
     brute SEED COUNT | task SEED STEPS | good HORIZON";
 
@@ -65,6 +65,7 @@ fn texts_command(name: &str, words: &[&str]) -> Outcome {
         ("texts", [seed, count, options @ ..]) => {
             text_commands::texts(seed.parse()?, count.parse()?, options)
         }
+        ("texts-sweep", []) => text_commands::swept(),
         ("texts-answer", []) => answer::<TextCase>(),
         ("texts-compare", [cases, answers]) => compare::<TextCase>(cases, answers),
         ("texts-programs", [cases, translate]) => {

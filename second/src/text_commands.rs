@@ -3,6 +3,7 @@
 use crate::streams::*;
 use second::programs::translate_program;
 use second::texts::stream::*;
+use second::texts::sweep::sweep;
 use second::texts::TextMaker;
 use second::translator::{read_text, LineKind, LINE_KINDS};
 use std::collections::{BTreeMap, BTreeSet};
@@ -39,9 +40,18 @@ impl Streamed for TextCase {
 
 pub fn texts(seed: u64, count: u64, options: &[&str]) -> Outcome {
     let mut maker = TextMaker::new(seed, longest_text(options)?);
+    write_texts((0..count).map(|_| maker.case()))
+}
+
+/// One small text changed in every way.
+pub fn swept() -> Outcome {
+    write_texts(sweep())
+}
+
+fn write_texts(cases: impl Iterator<Item = TextCase>) -> Outcome {
     let mut out = BufWriter::new(io::stdout().lock());
-    for _ in 0..count {
-        write_text_case(&mut out, &maker.case())?;
+    for case in cases {
+        write_text_case(&mut out, &case)?;
     }
     Ok(out.flush()?)
 }

@@ -14,8 +14,9 @@ use second::texts::damage::LINE_DAMAGES;
 use second::texts::draft::{EffectDraft, OperatorDraft, TextDraft};
 use second::texts::sheet::Sheet;
 use second::texts::stream::*;
+use second::texts::sweep::{line_variants, sweep};
 use second::texts::TextMaker;
-use second::translator::{read_text, translate, LINE_KINDS};
+use second::translator::{read_text, translate, LineKind, LINE_KINDS};
 use std::collections::BTreeSet;
 
 #[test]
@@ -124,26 +125,50 @@ fn fault_of(text: &[u8]) -> Option<Refusal> {
     read_text(text).err().map(|fault| fault.refusal)
 }
 
+/// A line of the folder's text in another form is refused there, by the
+/// format a second time, or not up to there.
+fn assert_judged(index: usize, line: &[u8]) -> Option<(LineKind, u64)> {
+    let (kind, detail) = (FOLDER_KINDS[index], index as u64 + 1);
+    let fault = fault_of(&with_line(index + 1, line)).filter(|fault| fault.detail <= detail);
+    let wanted = judged(kind, line).err().map(|number| Refusal { number, detail });
+    assert_eq!(fault, wanted, "{kind:?} {}", line.escape_ascii());
+    wanted.map(|refusal| (kind, refusal.number))
+}
+
+/// Each kind of line but the three of names, one of them also with 32 and
+/// three with 31.
+const REFUSED_KINDS: usize = LINE_KINDS.len() - 1 - 3 + 1 + 3;
+
 #[test]
 fn every_damage_at_every_line_is_refused_there_or_is_none() {
     const ROUNDS: usize = 12;
     let mut random = Random::new(23);
     let mut seen = BTreeSet::new();
     for (index, line) in folder_lines().iter().enumerate() {
-        let kind = FOLDER_KINDS[index];
         for change in LINE_DAMAGES.iter().cycle().take(ROUNDS * LINE_DAMAGES.len()) {
-            let damaged = change(&mut random, kind, line);
-            let fault = fault_of(&with_line(index + 1, &damaged));
-            let at_line = |fault: &Refusal| fault.detail <= index as u64 + 1;
-            let detail = index as u64 + 1;
-            let wanted = judged(kind, &damaged).err().map(|number| Refusal { number, detail });
-            assert_eq!(fault.filter(at_line), wanted, "{kind:?} {}", damaged.escape_ascii());
-            seen.extend(wanted.map(|refusal| (kind, refusal.number)));
+            let damaged = change(&mut random, FOLDER_KINDS[index], line);
+            seen.extend(assert_judged(index, &damaged));
         }
     }
-    // Each kind of line but the three of names, one of them also with 32 and
-    // three with 31.
-    assert_eq!(seen.len(), LINE_KINDS.len() - 1 - 3 + 1 + 3);
+    assert_eq!(seen.len(), REFUSED_KINDS);
+}
+
+#[test]
+fn every_variant_of_every_line_is_refused_there_or_is_none() {
+    let mut seen = BTreeSet::new();
+    for (index, line) in folder_lines().iter().enumerate() {
+        for variant in line_variants(FOLDER_KINDS[index], line) {
+            seen.extend(assert_judged(index, &variant));
+        }
+    }
+    assert_eq!(seen.len(), REFUSED_KINDS);
+}
+
+#[test]
+fn the_sweep_is_over_the_folder_example() {
+    assert!(sweep().any(|case| translate(&case.text) == Ok(folder())));
+    let numbers: BTreeSet<u64> = sweep().map(|case| case.answer().number).collect();
+    assert_eq!(numbers, BTreeSet::from([0, 5, 6, 7, 10, 30, 31, 32]));
 }
 
 #[test]
@@ -167,10 +192,11 @@ fn a_text_cut_at_any_byte() {
 fn fixed_cases() -> impl Iterator<Item = TextCase> {
     const SEEDS: u64 = 5;
     const COUNT: usize = 600;
-    (1..=SEEDS).flat_map(|seed| {
+    let random = (1..=SEEDS).flat_map(|seed| {
         let mut maker = TextMaker::new(seed, MOST_STREAM_TEXT);
         (0..COUNT).map(move |_| maker.case())
-    })
+    });
+    sweep().chain(random)
 }
 
 #[test]
@@ -221,7 +247,7 @@ fn an_accepted_file_is_in_order_and_its_room_was_enough() {
 
 #[test]
 fn a_stream_of_texts_is_read_as_it_was_written_and_stays_in_its_bounds() {
-    let cases: Vec<TextCase> = fixed_cases().take(300).collect();
+    let cases: Vec<TextCase> = fixed_cases().step_by(20).collect();
     let mut bytes = Vec::new();
     for case in &cases {
         assert!(case.room <= MOST_TEXT_ROOM && case.text.len() <= MOST_STREAM_TEXT);

@@ -12,7 +12,7 @@ pub type LineDamage = fn(&mut Random, LineKind, &[u8]) -> Vec<u8>;
 type SheetDamage = fn(&mut Random, &mut Sheet, usize);
 
 /// A line stays one line under each of these.
-pub const LINE_DAMAGES: [LineDamage; 16] = [
+pub const LINE_DAMAGES: [LineDamage; 17] = [
     telling_line,
     wrong_keyword,
     carriage_return,
@@ -23,6 +23,7 @@ pub const LINE_DAMAGES: [LineDamage; 16] = [
     leading_zero,
     seven_digits,
     sign,
+    minus_one,
     other_number,
     no_number,
     missing_word,
@@ -58,11 +59,16 @@ pub fn damage(random: &mut Random, sheet: &mut Sheet) {
 }
 
 /// A kind that the sheet has, or the end; those that 31 and 32 speak of come
-/// more often.
+/// more often, and the one of four words most often.
 fn any_kind(random: &mut Random, sheet: &Sheet) -> LineKind {
     const TELLING_TIMES: usize = 3;
+    const EFFECT_TIMES: usize = 6;
     let present = |kind: &LineKind| sheet.lines.iter().any(|(other, _)| other == kind);
-    let times = |kind| if has_telling_lines(kind) { TELLING_TIMES } else { 1 };
+    let times = |kind| match kind {
+        LineKind::Effect => EFFECT_TIMES,
+        _ if has_telling_lines(kind) => TELLING_TIMES,
+        _ => 1,
+    };
     let mut kinds: Vec<(usize, LineKind)> =
         LINE_KINDS.into_iter().filter(present).map(|kind| (times(kind), kind)).collect();
     kinds.push((1, LineKind::Behind));
@@ -172,9 +178,13 @@ fn seven_digits(random: &mut Random, _: LineKind, line: &[u8]) -> Vec<u8> {
 fn sign(random: &mut Random, _: LineKind, line: &[u8]) -> Vec<u8> {
     with_word(random, line, |random, word| {
         let (plus, minus) = ([b"+", word].concat(), [b"-", word].concat());
-        let words: [&[u8]; 7] = [&plus, &minus, b"-1", b"-1", b"-2", b"-0", b"-"];
+        let words: [&[u8]; 5] = [&plus, &minus, b"-2", b"-0", b"-"];
         random.pick(&words).to_vec()
     })
+}
+
+fn minus_one(random: &mut Random, _: LineKind, line: &[u8]) -> Vec<u8> {
+    with_word(random, line, |_, _| b"-1".to_vec())
 }
 
 /// A number in order, which as a count may leave the text too short or too

@@ -100,15 +100,24 @@ fn cost(random: &mut Random) -> usize {
     random.pick(&[0, 1, 1, 10, LARGEST])
 }
 
-/// Groups are held against nothing, so their pairs are any numbers.
+/// Groups are held against nothing, so their pairs are any numbers and there
+/// may be many.
 fn mutex_groups(random: &mut Random) -> Vec<Vec<NumberPair>> {
-    const MOST_GROUPS: usize = 3;
-    const MOST_PAIRS: usize = 4;
+    const FEW_GROUPS: usize = 3;
+    const FEW_PAIRS: usize = 4;
+    const MANY: [usize; 4] = [97, 256, 257, 600];
+    const MANY_ONCE_IN: usize = 40;
+    let mut groups = random.between(0, FEW_GROUPS);
+    let mut most_pairs = FEW_PAIRS;
+    if random.once_in(MANY_ONCE_IN) {
+        let many = random.pick(&MANY);
+        *(if random.coin() { &mut groups } else { &mut most_pairs }) = many;
+    }
+    (0..groups).map(|_| mutex_group(random, most_pairs)).collect()
+}
+
+fn mutex_group(random: &mut Random, most_pairs: usize) -> Vec<NumberPair> {
     const NUMBERS: [usize; 6] = [0, 1, 2, 63, 256, LARGEST];
-    let groups = random.between(0, MOST_GROUPS);
-    let mut group = || {
-        let pairs = random.between(0, MOST_PAIRS);
-        (0..pairs).map(|_| (random.pick(&NUMBERS), random.pick(&NUMBERS))).collect()
-    };
-    (0..groups).map(|_| group()).collect()
+    let pairs = random.between(0, most_pairs);
+    (0..pairs).map(|_| (random.pick(&NUMBERS), random.pick(&NUMBERS))).collect()
 }

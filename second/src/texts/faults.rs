@@ -7,7 +7,7 @@ use crate::random::Random;
 
 type Fault = fn(&mut Random, &mut TextDraft);
 
-const FAULTS: [(usize, Fault); 16] = [
+const FAULTS: [(usize, Fault); 17] = [
     (3, variable_count),
     (3, wrong_range),
     (3, sum_of_ranges),
@@ -15,7 +15,8 @@ const FAULTS: [(usize, Fault); 16] = [
     (3, goal_pair_outside),
     (4, goal_variable_twice),
     (2, goal_count),
-    (4, operator_pair_outside),
+    (6, operator_number_beyond),
+    (4, old_value_beyond),
     (2, prevail_twice),
     (2, effect_twice),
     (3, prevail_and_old_value),
@@ -53,7 +54,7 @@ fn beyond(random: &mut Random, limit: usize, good: usize) -> usize {
     let next = limit + random.below(3);
     let (byte, two_bytes) = (BYTE_VALUES + good, TWO_BYTE_VALUES + good);
     let far = random.pick(&[BYTE_VALUES - 1, BYTE_VALUES, TWO_BYTE_VALUES, LARGEST]);
-    random.weighted(&[(4, limit), (2, next), (2, byte), (1, two_bytes), (1, far)])
+    random.weighted(&[(3, limit), (1, next), (4, byte), (1, two_bytes), (1, far)])
 }
 
 fn any_variable(random: &mut Random, draft: &TextDraft) -> Option<usize> {
@@ -195,33 +196,35 @@ fn any_operator(random: &mut Random, draft: &mut TextDraft) -> usize {
     random.below(draft.operators.len())
 }
 
-fn operator_pair_outside(random: &mut Random, draft: &mut TextDraft) {
+fn operator_number_beyond(random: &mut Random, draft: &mut TextDraft) {
     let number = any_operator(random, draft);
-    let good = any_pair(random, draft);
-    let (variable, value) = pair_outside(random, draft, good);
-    let operator = &mut draft.operators[number];
-    let count = operator.prevail.len() + operator.effects.len();
-    let place = random.between(0, count);
-    if place == count {
-        let effect = EffectDraft { variable, old: None, new: value };
-        insert_anywhere(random, &mut operator.effects, effect);
-    } else if place < operator.prevail.len() {
-        operator.prevail[place] = (variable, value);
-    } else {
-        let place = place - operator.prevail.len();
-        spoil_effect(random, &mut operator.effects[place], (variable, value));
-    }
+    number_beyond(random, draft, number);
 }
 
-/// A pair outside in place of the old one, the new one or both.
-fn spoil_effect(random: &mut Random, effect: &mut EffectDraft, outside: NumberPair) {
-    let old_only = random.coin();
-    effect.variable = outside.0;
-    if old_only {
-        effect.old = Some(outside.1);
-    } else {
-        effect.new = outside.1;
+/// One number of an operator beyond its limit, all others as they were.
+fn number_beyond(random: &mut Random, draft: &mut TextDraft, number: usize) {
+    let prevail = draft.operators[number].prevail.len();
+    let place = random.below(prevail + 1);
+    if place < prevail {
+        let pair = draft.operators[number].prevail[place];
+        draft.operators[number].prevail[place] = pair_outside(random, draft, pair);
+        return;
     }
+    let place = any_effect(random, draft, number);
+    let effect = draft.operators[number].effects[place];
+    let (variable, new) = pair_outside(random, draft, (effect.variable, effect.new));
+    draft.operators[number].effects[place] = EffectDraft { variable, new, ..effect };
+}
+
+/// Old values that bytes could take for -1 or for one in the domain.
+fn old_value_beyond(random: &mut Random, draft: &mut TextDraft) {
+    const ALL_ONES: [usize; 2] = [BYTE_VALUES - 1, TWO_BYTE_VALUES - 1];
+    let number = any_operator(random, draft);
+    let place = any_effect(random, draft, number);
+    let effect = draft.operators[number].effects[place];
+    let old = value_beyond(random, draft, (effect.variable, effect.old.unwrap_or(0)));
+    let old = random.pick(&[old, old, ALL_ONES[0], ALL_ONES[1]]);
+    draft.operators[number].effects[place].old = Some(old);
 }
 
 fn prevail_twice(random: &mut Random, draft: &mut TextDraft) {
@@ -314,14 +317,17 @@ fn list_of_hundreds(random: &mut Random, draft: &mut TextDraft) {
     }
 }
 
-/// About as many operators as are allowed, now and then one of them at fault.
+/// About as many operators as are allowed, now and then one of them, or the
+/// last, at fault.
 fn operator_count(random: &mut Random, draft: &mut TextDraft) {
     const COUNTS: [usize; 6] =
-        [MOST_ACTIONS - 1, MOST_ACTIONS, MOST_ACTIONS + 1, MOST_ACTIONS + 1, 600, 768];
+        [MOST_ACTIONS - 1, MOST_ACTIONS, MOST_ACTIONS + 1, MOST_ACTIONS + 2, 600, 768];
     let count = random.pick(&COUNTS);
     draft.operators.resize(count, OperatorDraft::default());
-    if random.coin() {
-        operator_pair_outside(random, draft);
+    let any = random.below(count);
+    let at_fault = random.weighted(&[(2, None), (1, Some(any)), (1, Some(count - 1))]);
+    if let Some(number) = at_fault {
+        number_beyond(random, draft, number);
     }
 }
 

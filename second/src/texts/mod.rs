@@ -6,6 +6,7 @@ pub mod draft;
 pub mod faults;
 pub mod sheet;
 pub mod stream;
+pub mod sweep;
 mod telling;
 
 use crate::draft::Size;
@@ -81,7 +82,7 @@ impl TextMaker {
         let mut draft = TextDraft::of(&mut self.random, &task);
         if matches!(shape, Shape::Faulty | Shape::FaultyAndDamaged) {
             put_faults(&mut self.random, &mut draft);
-            if self.longest > MOST_STREAM_TEXT && self.random.once_in(FAR_ONCE_IN) {
+            if self.for_program() && self.random.once_in(FAR_ONCE_IN) {
                 put_far_fault(&mut self.random, &mut draft);
             }
         }
@@ -106,10 +107,19 @@ impl TextMaker {
         sheet
     }
 
+    /// Texts beyond the stream's bound are for the program, which always has
+    /// room.
+    fn for_program(&self) -> bool {
+        self.longest > MOST_STREAM_TEXT
+    }
+
     /// The file's length, one less, more, or none.
     fn room(&mut self, needed: usize) -> usize {
         const MOST_BEHIND: usize = 20;
         let most = MOST_TEXT_ROOM;
+        if self.for_program() {
+            return most;
+        }
         let more = needed + self.random.between(1, MOST_BEHIND);
         let less = self.random.below(needed + 1);
         let rooms =

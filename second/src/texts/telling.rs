@@ -12,7 +12,9 @@ fn forbidden_lines(kind: LineKind) -> &'static str {
         LineKind::Version => "4|2|1|0|30|33|999999",
         LineKind::AxiomLayer => "0|1|5|10|0 x|0 |0  |1 -1|999999 \t",
         LineKind::AxiomCount => "1|1 x|1 |1 \r|2  |10|999999 0",
-        LineKind::Effect => "1 0 0 0 -1 0|1|1 |1 x|2  y|10 0 0 0|999999 0 0 0|1 0 -1 -1",
+        LineKind::Effect => {
+            "1 0 0 0 -1 0|1|1 |1 x|1 x 0 0|2  y|2 0 00 1|10 0 0 0|999999 0 0 0|1 0 -1 -1"
+        }
         _ => "",
     }
 }
@@ -45,6 +47,11 @@ const OTHER_LINES: &str = "0|1|-1|0 0|0 0 -1 0|begin_rule";
 
 pub fn has_telling_lines(kind: LineKind) -> bool {
     !near_lines(kind).is_empty()
+}
+
+/// All lines of a kind's own tables.
+pub fn own_lines(kind: LineKind) -> Vec<&'static str> {
+    forbidden_lines(kind).split(BAR).chain(near_lines(kind).split(BAR)).collect()
 }
 
 pub fn telling_line(random: &mut Random, kind: LineKind, _: &[u8]) -> Vec<u8> {
