@@ -21,3 +21,5 @@ pub mod schedule;
 pub mod solver_lines;
 pub mod task_file;
 pub mod text;
+pub mod texts;
+pub mod translator;

@@ -1,24 +1,27 @@
 //! The second program's commands; the folder's README says how to use them.
 
+mod streams;
+mod text_commands;
+
 use second::answers::{reply, write_answer};
 use second::brute_force::{count_good, pair_off_any, MOST_FORMULA_VARIABLES};
 use second::cases::{Maker, Options};
 use second::draft::{planned, Size};
-use second::programs::{clauses_program, model_program};
+use second::programs::{clauses_program, model_program, translate_program};
 use second::protocol::*;
 use second::random::Random;
 use second::task_file::judge;
+use second::texts::stream::TextCase;
 use std::collections::{BTreeMap, BTreeSet};
 use std::error::Error;
-use std::fs::File;
-use std::io::{self, BufReader, BufWriter, Read, Write};
-use std::process::{Command, ExitCode, Stdio};
-use std::thread;
+use std::io::{self, BufWriter, Read, Write};
+use std::process::ExitCode;
+use streams::*;
 
-type Outcome = Result<(), Box<dyn Error>>;
-
-const USAGE: &str = "clauses | model | cases SEED COUNT [NAME=VALUE ..] | answer | \
+const USAGE: &str = "clauses | model | translate | cases SEED COUNT [NAME=VALUE ..] | answer | \
     compare CASES ANSWERS | programs CASES CLAUSES MODEL | tally | pick INDEX | show | input | \
+    texts SEED COUNT [text_bytes=VALUE] | texts-sweep | texts-answer | texts-compare CASES ANSWERS | \
+    texts-programs CASES TRANSLATE | texts-tally | texts-pick INDEX | texts-show | texts-input | \
     brute SEED COUNT | task SEED STEPS | good HORIZON";
 
 fn main() -> ExitCode {
@@ -37,14 +40,16 @@ fn command(words: &[&str]) -> Outcome {
     match words {
         ["clauses"] => run_program(clauses_program),
         ["model"] => run_program(model_program),
+        ["translate"] => run_program(translate_program),
         ["cases", seed, count, options @ ..] => cases(seed.parse()?, count.parse()?, options),
-        ["answer"] => answer(),
-        ["compare", cases, answers] => compare(cases, answers),
+        ["answer"] => answer::<Case>(),
+        ["compare", cases, answers] => compare::<Case>(cases, answers),
         ["programs", cases, clauses, model] => compare_programs(cases, clauses, model),
         ["tally"] => tally(),
-        ["pick", index] => pick(index.parse()?),
+        ["pick", index] => pick::<Case>(index.parse()?),
         ["show"] => show(),
-        ["input"] => input(),
+        ["input"] => input::<Case>(),
+        [name, words @ ..] if name.starts_with(TEXTS) => texts_command(name, words),
         ["brute", seed, count] => brute(seed.parse()?, count.parse()?),
         ["task", seed, steps] => task(seed.parse()?, steps.parse()?),
         ["good", horizon] => good(horizon.parse()?),
@@ -52,7 +57,55 @@ fn command(words: &[&str]) -> Outcome {
     }
 }
 
-type Program = fn(&[u8], &mut dyn FnMut(&[u8]));
+/// The first word of every command over a stream of texts.
+const TEXTS: &str = "texts";
+
+fn texts_command(name: &str, words: &[&str]) -> Outcome {
+    match (name, words) {
+        ("texts", [seed, count, options @ ..]) => {
+            text_commands::texts(seed.parse()?, count.parse()?, options)
+        }
+        ("texts-sweep", []) => text_commands::swept(),
+        ("texts-answer", []) => answer::<TextCase>(),
+        ("texts-compare", [cases, answers]) => compare::<TextCase>(cases, answers),
+        ("texts-programs", [cases, translate]) => {
+            text_commands::compare_translations(cases, translate)
+        }
+        ("texts-tally", []) => text_commands::tally(),
+        ("texts-pick", [index]) => pick::<TextCase>(index.parse()?),
+        ("texts-show", []) => text_commands::show(),
+        ("texts-input", []) => input::<TextCase>(),
+        _ => Err(USAGE.into()),
+    }
+}
+
+impl Streamed for Case {
+    fn read(from: &mut dyn Read) -> io::Result<Option<Case>> {
+        read_case(from)
+    }
+
+    fn write(&self, out: &mut dyn Write) -> io::Result<()> {
+        write_case(out, self)
+    }
+
+    fn write_answer(&mut self, out: &mut dyn Write) -> io::Result<()> {
+        write_answer(self, out)
+    }
+
+    fn name(&self) -> String {
+        format!("{:?}", self.kind)
+    }
+
+    fn text(&self) -> &[u8] {
+        &self.text
+    }
+
+    fn numbers(answer: &[u8]) -> Vec<u64> {
+        const REPLY_NUMBERS: usize = 4;
+        let words = answer.chunks_exact(size_of::<u64>()).take(REPLY_NUMBERS);
+        words.filter_map(|word| word.try_into().ok().map(u64::from_le_bytes)).collect()
+    }
+}
 
 fn run_program(program: Program) -> Outcome {
     let mut input = Vec::new();
@@ -98,109 +151,21 @@ fn cases(seed: u64, count: u64, words: &[&str]) -> Outcome {
     Ok(out.flush()?)
 }
 
-/// Calls the action on every case of a stream, with its number from 0.
-fn each_case(from: impl Read, mut action: impl FnMut(u64, Case) -> Outcome) -> Outcome {
-    let mut from = BufReader::new(from);
-    let mut index = 0;
-    while let Some(case) = read_case(&mut from)? {
-        action(index, case)?;
-        index += 1;
-    }
-    Ok(())
-}
-
-fn answer() -> Outcome {
-    let mut out = BufWriter::new(io::stdout().lock());
-    each_case(io::stdin().lock(), |_, mut case| Ok(write_answer(&mut case, &mut out)?))?;
-    Ok(out.flush()?)
-}
-
-/// Holds a stream of answers against this program's, up to the first that
-/// differs: behind it the other stream may be out of step.
-fn compare(cases: &str, answers: &str) -> Outcome {
-    let mut others = BufReader::new(File::open(answers)?);
-    let mut count = 0;
-    each_case(File::open(cases)?, |index, mut case| {
-        let mut own = Vec::new();
-        write_answer(&mut case, &mut own)?;
-        let mut other = Vec::new();
-        others.by_ref().take(own.len() as u64).read_to_end(&mut other)?;
-        if own != other {
-            return Err(difference(index, &case, &own, &other).into());
-        }
-        count += 1;
-        Ok(())
-    })?;
-    if others.read(&mut [0])? != 0 {
-        return Err("answers are left over behind the last case".into());
-    }
-    println!("{count} cases, no difference");
-    Ok(())
-}
-
 /// Runs the two programs themselves, given as commands, on the cases of their
 /// kinds and holds what they print against what is printed here.
 fn compare_programs(cases: &str, clauses: &str, model: &str) -> Outcome {
-    let mut count = 0;
-    each_case(File::open(cases)?, |index, case| {
-        let (command, own) = match case.kind {
-            Kind::ClausesProgram => (clauses, printed(clauses_program, &case.text)),
-            Kind::ModelProgram => (model, printed(model_program, &case.text)),
-            kind => return Err(format!("case {index}, {kind:?}: no case of a program").into()),
-        };
-        if output_of(command, case.text)? != own {
-            let kind = case.kind;
-            return Err(format!("case {index}, {kind:?}: {command} prints something else").into());
-        }
-        count += 1;
-        Ok(())
-    })?;
-    println!("{count} runs, no difference");
-    Ok(())
+    compare_runs(cases, |case: &Case| match case.kind {
+        Kind::ClausesProgram => Ok((clauses, clauses_program)),
+        Kind::ModelProgram => Ok((model, model_program)),
+        _ => Err("no case of a program".into()),
+    })
 }
-
-fn printed(program: Program, input: &[u8]) -> Vec<u8> {
-    let mut text = Vec::new();
-    program(input, &mut |line| text.extend_from_slice(line));
-    text
-}
-
-/// What a command prints for an input. A program that stops reading early may
-/// print all the same, so an input that it does not take is no fault here.
-fn output_of(command: &str, input: Vec<u8>) -> Result<Vec<u8>, Box<dyn Error>> {
-    let mut child = Command::new(command).stdin(Stdio::piped()).stdout(Stdio::piped()).spawn()?;
-    let mut stdin = child.stdin.take().ok_or("no standard input")?;
-    let writer = thread::spawn(move || drop(stdin.write_all(&input)));
-    let output = child.wait_with_output()?;
-    writer.join().map_err(|_| "the input's thread broke off")?;
-    match output.status.success() {
-        true => Ok(output.stdout),
-        false => Err(format!("{command} ends with {}", output.status).into()),
-    }
-}
-
-fn difference(index: u64, case: &Case, own: &[u8], other: &[u8]) -> String {
-    let first = own.iter().zip(other).take_while(|(a, b)| a == b).count();
-    let (here, there) = (reply_numbers(own), reply_numbers(other));
-    let kind = case.kind;
-    if first == other.len() {
-        return format!("case {index}, {kind:?}: the other answers end; here {here:?}");
-    }
-    format!("case {index}, {kind:?}: differs at byte {first}; here {here:?}, there {there:?}")
-}
-
-fn reply_numbers(answer: &[u8]) -> Vec<u64> {
-    let words = answer.chunks_exact(size_of::<u64>()).take(REPLY_NUMBERS);
-    words.filter_map(|word| word.try_into().ok().map(u64::from_le_bytes)).collect()
-}
-
-const REPLY_NUMBERS: usize = 4;
 
 /// How often each kind gets each answer number, and with how many details; at
 /// last how often each number comes at all.
 fn tally() -> Outcome {
     let mut found: BTreeMap<(u64, u64), Vec<u64>> = BTreeMap::new();
-    each_case(io::stdin().lock(), |_, mut case| {
+    each_case(io::stdin().lock(), |_, mut case: Case| {
         let (number, detail) = judged(&mut case);
         found.entry((case.kind_number(), number)).or_default().push(detail);
         Ok(())
@@ -249,28 +214,14 @@ fn judged(case: &mut Case) -> (u64, u64) {
     }
 }
 
-fn pick(wanted: u64) -> Outcome {
-    let mut out = io::stdout().lock();
-    each_case(io::stdin().lock(), |index, case| match index == wanted {
-        true => Ok(write_case(&mut out, &case)?),
-        false => Ok(()),
-    })
-}
-
 fn show() -> Outcome {
-    each_case(io::stdin().lock(), |index, mut case| {
+    each_case(io::stdin().lock(), |index, mut case: Case| {
         println!("case {index}: {case:?}");
         println!("text: {}", case.text.escape_ascii());
         let reply = reply(&mut case);
         println!("answer: {reply:?}, memory after the call: {case:?}");
         Ok(())
     })
-}
-
-/// The bare text of each case, to be fed to a program itself.
-fn input() -> Outcome {
-    let mut out = io::stdout().lock();
-    each_case(io::stdin().lock(), |_, case| Ok(out.write_all(&case.text)?))
 }
 
 fn brute(seed: u64, count: u64) -> Outcome {

@@ -1,4 +1,5 @@
-//! What the two programs print for any input, a line at a call of `print`.
+//! What the programs print for any input, a line or a whole file at a call of
+//! `print`.
 
 use crate::checker::{end, EMPTY_STEP};
 use crate::clauses::formula;
@@ -6,6 +7,7 @@ use crate::numbering::words_needed;
 use crate::refusal::{Answer, Refusal};
 use crate::solver_lines::{read_output, start, Rows};
 use crate::text::{clause_line, header_line};
+use crate::translator::translate;
 
 /// The file's length takes two bytes behind the horizon.
 const LENGTH_FROM: usize = 1;
@@ -35,6 +37,14 @@ pub fn model_program(input: &[u8], print: &mut dyn FnMut(&[u8])) {
                 print(format!("{entry}\n").as_bytes());
             }
         }
+        Err(refusal) => print(&refusal_line(refusal)),
+    }
+}
+
+/// The translate program: a translator's text becomes the file's bytes.
+pub fn translate_program(input: &[u8], print: &mut dyn FnMut(&[u8])) {
+    match translate(input) {
+        Ok(file) => print(&file),
         Err(refusal) => print(&refusal_line(refusal)),
     }
 }

@@ -33,6 +33,10 @@ pub const SAYS_UNKNOWN: u64 = 19;
 pub const ENTRY_OVER: u64 = 20;
 pub const NOT_APPLICABLE: u64 = 21;
 pub const GOAL_UNMET: u64 = 22;
+pub const AGAINST_FORMAT: u64 = 30;
+/// An axiom layer, axioms or conditions, which are not taken.
+pub const NOT_TAKEN: u64 = 31;
+pub const OTHER_VERSION: u64 = 32;
 
 pub fn refuse<T>(number: u64, detail: u64) -> Answer<T> {
     Err(Refusal { number, detail })

@@ -1,6 +1,8 @@
 //! What the tests share: the folder example and short ways to ask.
 #![allow(dead_code)]
 
+pub mod texts;
+
 use second::checker::end;
 use second::draft::{file_of, Draft, DraftAction, DraftPair};
 use second::numbering::words_needed;
@@ -115,9 +117,13 @@ pub fn printed_schedule(input: &[u8]) -> String {
 type Program = fn(&[u8], &mut dyn FnMut(&[u8]));
 
 fn printed(program: Program, input: &[u8]) -> String {
+    String::from_utf8(printed_bytes(program, input)).expect("the programs print ASCII")
+}
+
+pub fn printed_bytes(program: Program, input: &[u8]) -> Vec<u8> {
     let mut out = Vec::new();
     program(input, &mut |line| out.extend(line));
-    String::from_utf8(out).expect("the programs print ASCII")
+    out
 }
 
 /// The model program's input.
