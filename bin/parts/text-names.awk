@@ -1,6 +1,6 @@
 # The names in a translator's text that bin/translate has accepted: the number of variables; of each its name, the number of its values and their names;
-# the number of operators; of each its name and what it costs. Each stands on a line of its own. Counts alone say where names end: a name may be any bytes but LF, and NUL where awk
-# takes it, as mawk and gawk do.
+# the number of operators; of each its name and what it costs. Each stands on a line of its own. Counts alone say where names end: a name may be any bytes
+# but LF, and NUL only where awk takes it, as mawk and gawk do.
 
 function skip(lines) { while (lines-- > 0) getline }
 function copy(lines) { while (lines-- > 0) { getline; print } }
