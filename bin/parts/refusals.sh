@@ -27,3 +27,17 @@ refusal_in_words() {
         *) echo "this refusal has no words here" ;;
     esac
 }
+
+# what refusal NUMBER with DETAIL says of a translator's text; what has no words of its own here is said as of a task file
+text_refusal_in_words() {
+    case "$1 $2" in
+        '3 '*) echo "it has not 1 to 96 variables, or has over 96 goal pairs" ;;
+        '6 '*) echo "goal pair $2, in rising order of variable, is outside its domain, or names a variable again" ;;
+        '7 512') echo "it has over 512 operators" ;;
+        '7 '*) echo "operator $2 has over 8 preconditions or effects, a pair outside its domain, or a variable twice among either" ;;
+        '30 '*) echo "line $2 is against the format, or the text stops before it" ;;
+        '31 '*) echo "line $2 has an axiom layer other than -1, axioms, or conditions of an effect" ;;
+        '32 '*) echo "line $2 has another version of the format than 3" ;;
+        *) refusal_in_words "$1" "$2" ;;
+    esac
+}

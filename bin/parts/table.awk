@@ -1,5 +1,5 @@
 # The states that a schedule walks through, a line a step: from the bytes of a task file in decimal (stage=bytes), the schedule's entries (stage=plan)
-# and, where there is one, the source of names (stage=names). The walk is done over again here: a schedule that is not good gives no table.
+# and, where there are any, the names (stage=names, read by names.awk). The walk is done over again here: a schedule that is not good gives no table.
 
 # the exit statuses of bin/plan: 2 for a bad input, 4 where a schedule that has passed bin/model does not pass here
 function stop(status, why) {
@@ -38,7 +38,7 @@ function name_of_variable(x) { return named ? variable_name[x] : "variable " x }
 function name_of_value(x) { return named ? value_name[x, state[x]] : state[x] }
 
 function names_fit(    x) {
-    if (names != variables || action_names != actions) return 0
+    if (variables_named != variables || actions_named != actions) return 0
     for (x = 0; x < variables; x++)
         if (values_named[x] != byte[word(0) + x]) return 0
     return 1
@@ -62,16 +62,9 @@ function print_table(    line, column) {
     }
 }
 
-BEGIN { names = 0; steps = 0 }
+BEGIN { steps = 0 }
 stage == "bytes" { for (i = 1; i <= NF; i++) byte[bytes++] = $i; next }
-stage == "plan" { entry[++steps] = $1; next }
-{ named = 1; sub(/#.*/, "") }
-$1 == "variable" {
-    for (i = 3; i <= NF; i++) value_name[names, i - 3] = $i
-    values_named[names] = NF - 2
-    variable_name[names++] = $2
-}
-$1 == "action" { action_name[action_names++] = $2 }
+stage == "plan" { entry[++steps] = $1 }
 
 END {
     variables = word(2)
