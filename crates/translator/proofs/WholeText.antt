@@ -39,7 +39,7 @@ use Rattle.translator.specs.declared.position.Position.{Position}
 use Rattle.translator.specs.declared.intake.Intake.{Intake}
 use Rattle.translator.proofs.Stack.{linesDue, no-end}
 use Rattle.translator.proofs.Simulated.{Laws, unless-accepted, unless-refused, Keeps, sound, Follows, follows-line, follows-end, Simulates, due-next, next-line}
-use Rattle.translator.proofs.InPieces.{taken-in-pieces, taken-nothing, by-verdict, chosen-true, chosen-false, byte-ends, byte-held, byte-passed, all-lines, ahead-first, whole}
+use Rattle.translator.proofs.InPieces.{taken-in-pieces, taken-nothing, by-verdict, chosen-true, chosen-false, byte-ends, byte-held, byte-passed, all-lines, whole}
 
 -- ---- verdicts in turn
 
