@@ -28,7 +28,7 @@ use Rattle.rules.proofs.Bools.{either, clash, and-left, and-right, below-or}
 use Rattle.rules.proofs.Judging.{refused-not, judge-head, judge-append, judge-passed, judge-refused, judge-nil, inTurn-left, inTurn-right}
 use Rattle.rules.proofs.Cut.{lines-most, holds-none}
 use Rattle.writer.specs.Laid.{laidOut}
-use Rattle.textlines.specs.Says.{numbersIn, saidBy, saysAs}
+use Rattle.textlines.specs.Says.{numbersIn, saidBy, shapeSays, saysAs}
 use Rattle.bodies.specs.Keeping.{nothingKept, goalRoom, actionsRoom, Sound}
 use Rattle.bodies.specs.declared.Kept.{Kept}
 use Rattle.bodies.specs.declared.Excess.{Excess}
@@ -187,7 +187,7 @@ module _ (L : Laws) where
   ready-said t at text (Refused why) e r = record { said = r .said; follows = r .follows; held = omega arith; line = r .line }
 
   ready-line : (t : Taken) → t .intake .verdict ≡ Accepted → Ready t → Ready (endLine t)
-  unfolding endLine saysAs
+  unfolding endLine saysAs shapeSays
   ready-line t v r =
       ready-as _ _ (unless-accepted (t .intake .verdict) _ t v)
       (ready-said t (oneMore (t .intake .lines)) (take (t .intake .held) (t .line)) _ refl r)
