@@ -3,22 +3,21 @@
 use mathlib.Core.Path.{_≡_, refl, sym, ap, _∙_}
 use mathlib.Core.Logic.{⊎-elim}
 use mathlib.Core.Bool.{Bool, true, cond}
-use mathlib.Core.List.{List, [], _∷_, _++_, foldl, foldl-append, append-assoc, append-nil}
+use mathlib.Core.List.{List, [], _∷_, _++_, foldl, foldl-append}
 use Prim.Native.Nat.{ℕ, _+_, _≤_, _<_, min}
 use native.Mathlib.Omega.{arith}
-use native.Mathlib.Numerals.{add-one}
 use borrow.Author.Tests.{eq-eqb, ne-eqb, eqb-true, eqb-false, le-leb, lt-leb, lt-ltb, le-ltb}
 use lib.Dec.{eqb, leb}
-use lib.ListN.{length, take, set, length-append, length-take, length-set}
-use lib.Seq.{take-all, take-suc-set, take-append-le}
+use lib.ListN.{length, take, set, length-take, length-set}
+use lib.Seq.{take-all}
 use Rattle.rules.specs.Counting.{joined}
 use Rattle.rules.specs.Limits.{maxLine}
 use Rattle.rules.specs.Answers.{demand, judge, inTurn}
 use Rattle.rules.specs.Text.{lf}
 use Rattle.rules.specs.Families.{Literal}
 use Rattle.rules.specs.Rows.{Rows}
-use Rattle.rules.specs.Lines.{onto, pieces, kindOf, lineVerdict, phaseAfter, named, rowsFit, Progress, progress, readLine}
-use Rattle.rules.specs.Output.{withoutEmptyLast, linesOf, readOn, readLines, readOutput}
+use Rattle.rules.specs.Lines.{kindOf, lineVerdict, phaseAfter, named, rowsFit, Progress, progress, readLine}
+use Rattle.rules.specs.Output.{linesOf, readOn, readLines, readOutput}
 use Rattle.rules.specs.declared.Refusal.{Refusal}
 use Rattle.rules.specs.declared.Refusal.the-variants.{Room, Grammar}
 use Rattle.rules.specs.declared.Verdict.{Verdict}
@@ -26,7 +25,7 @@ use Rattle.rules.specs.declared.Verdict.the-variants.{Accepted, Refused}
 use Rattle.rules.specs.declared.Reading.{Reading}
 use Rattle.rules.specs.declared.LineAnswer.{LineAnswer}
 use Rattle.rules.proofs.Bools.{either, below-or, and-left}
-use Rattle.rules.proofs.Cut.{prefixed, prefixed-onto, prefixed-none, not-last, Holds, holds-none, holds-more, holds-full}
+use Rattle.rules.proofs.Cut.{linesAhead, ahead-first, ahead-none, ahead-last, ahead-lf, ahead-byte, Holds, holds-none, holds-more, holds-full}
 use Rattle.output.specs.Line.{bothFit}
 use Rattle.output.specs.Feeding.{lineRoom, Fed, fedByte, feedByte, feedAll, roomFor, hasRoom, feedCall, finished, finish, finishCall}
 use Rattle.output.proofs.Kept.{all-keep}
@@ -93,44 +92,39 @@ held-read reading rows held line begun h = ap (readLine reading rows) (h .same) 
 abbrev Read : List ℕ → LineAnswer → Rows → ℕ → List ℕ → List ℕ → Type 0
 Read bytes answer rows held line begun =
     finish (feedAll (record { progress = record { answer = answer; rows = rows }; held = held; line = line }) bytes)
-    ≡ foldl step (record { answer = answer; rows = rows }) (withoutEmptyLast (prefixed begun (pieces lf bytes)))
+    ≡ foldl step (record { answer = answer; rows = rows }) (linesAhead begun bytes)
 
 read-refused : (bytes : List ℕ) (why : Refusal) (rows : Rows) (held : ℕ) (line begun : List ℕ) → Read bytes (LineAnswer.Refused why) rows held line begun
 unfolding finish
 read-refused bytes why rows held line begun =
     ap finish (fed-stays (record { progress = record { answer = LineAnswer.Refused why; rows = rows }; held = held; line = line }) why bytes refl)
-    ∙ sym (lines-stay (record { answer = LineAnswer.Refused why; rows = rows }) why (withoutEmptyLast (prefixed begun (pieces lf bytes))) refl)
+    ∙ sym (lines-stay (record { answer = LineAnswer.Refused why; rows = rows }) why (linesAhead begun bytes) refl)
 
 read-end : (reading : Reading) (rows : Rows) (held : ℕ) (line begun : List ℕ) → Holds lineRoom held line begun → Read [] (LineAnswer.Next reading) rows held line begun
-unfolding feedAll finish pieces withoutEmptyLast
-read-end reading rows held line [] h = rw (eq-eqb held 0 (h .much))
+unfolding feedAll finish
+read-end reading rows held line [] h =
+    rw (eq-eqb held 0 (h .much)) (ap (foldl step (record { answer = LineAnswer.Next reading; rows = rows })) (sym ahead-none))
 read-end reading rows held line (b ∷ begun) h =
     rw (ne-eqb held 0 (λ e. omega (arith, h .much)))
-    (held-read reading rows held line (b ∷ begun) h ∙ ap (λ s. readLine reading rows (b ∷ s)) (sym (append-nil begun)))
+    (held-read reading rows held line (b ∷ begun) h
+    ∙ ap (foldl step (record { answer = LineAnswer.Next reading; rows = rows })) (sym (ahead-last b begun)))
 
 read-lf : (bytes : List ℕ) (reading : Reading) (rows : Rows) (held : ℕ) (line begun : List ℕ) (b : ℕ) → b ≡ lf → Holds lineRoom held line begun
     → Read bytes (readLine reading rows begun .answer) (readLine reading rows begun .rows) 0 line []
     → Read (b ∷ bytes) (LineAnswer.Next reading) rows held line begun
-unfolding feedAll feedByte pieces
+unfolding feedAll feedByte
 read-lf bytes reading rows held line begun b e h rest =
-    let first : Progress = record { answer = LineAnswer.Next reading; rows = rows } in
-    let others : List (List ℕ) = withoutEmptyLast (pieces lf bytes) in
     rw (eq-eqb b lf e)
     (ap (λ p. finish (feedAll (record { progress = p; held = 0; line = line }) bytes)) (held-read reading rows held line begun h)
     ∙ rest
-    ∙ ap (λ ls. foldl step (readLine reading rows begun) (withoutEmptyLast ls)) (prefixed-none bytes)
-    ∙ ap (λ l. foldl step (readLine reading rows l) others) (sym (append-nil begun))
-    ∙ ap (foldl step first) (sym (not-last (begun ++ []) bytes)))
+    ∙ ap (foldl step (record { answer = LineAnswer.Next reading; rows = rows })) (sym (ahead-lf begun bytes b e)))
 
 read-byte : (bytes : List ℕ) (reading : Reading) (rows : Rows) (held : ℕ) (line begun : List ℕ) (b : ℕ) → (b ≡ lf → ⊥) → Holds lineRoom held line begun
     → ((held : ℕ) (line begun : List ℕ) → Holds lineRoom held line begun → Read bytes (LineAnswer.Next reading) rows held line begun)
     → Read (b ∷ bytes) (LineAnswer.Next reading) rows held line begun
-unfolding feedAll feedByte pieces
+unfolding feedAll feedByte
 read-byte bytes reading rows held line begun b e h rest =
-    let first : Progress = record { answer = LineAnswer.Next reading; rows = rows } in
-    let longer : foldl step first (withoutEmptyLast (prefixed (begun ++ (b ∷ [])) (pieces lf bytes)))
-    ≡ foldl step first (withoutEmptyLast (prefixed begun (onto b (pieces lf bytes)))) =
-    ap (λ ls. foldl step first (withoutEmptyLast ls)) (sym (prefixed-onto begun b (pieces lf bytes))) in
+    let longer = ap (foldl step (record { answer = LineAnswer.Next reading; rows = rows })) (sym (ahead-byte begun bytes b e)) in
     rw (ne-eqb b lf e)
     (⊎-elim
     (λ l. rw (lt-ltb held lineRoom l) (rest (held + 1) (set line held b) (begun ++ (b ∷ [])) (holds-more lineRoom held line begun b h l) ∙ longer))
@@ -155,7 +149,7 @@ pub whole : (reading : Reading) (rows : Rows) (line bytes : List ℕ) → lineRo
 unfolding readOutput readLines linesOf
 whole reading rows line bytes h =
     read-all bytes (LineAnswer.Next reading) rows 0 line [] (holds-none lineRoom line h)
-    ∙ ap (λ ls. foldl step (record { answer = LineAnswer.Next reading; rows = rows }) (withoutEmptyLast ls)) (prefixed-none bytes)
+    ∙ ap (foldl step (record { answer = LineAnswer.Next reading; rows = rows })) (ahead-first bytes)
 
 -- ---- the calls: fed from the start in any pieces, with room for a line and for the rows
 

@@ -1,11 +1,12 @@
--- A text that comes in pieces: its lines where some of the first is read already, and the first bytes of that line, held in lent room.
+-- A text that comes in pieces: its lines where some of the first has begun, and the first bytes of that line, held in lent room.
 -- Assumes nothing.
 use mathlib.Core.Path.{_≡_, refl, sym, ap, _∙_}
 use mathlib.Core.Logic.{⊎-elim}
-use mathlib.Core.List.{List, [], _∷_, _++_, append-assoc}
+use mathlib.Core.List.{List, [], _∷_, _++_, append-nil, append-assoc}
 use Prim.Native.Nat.{ℕ, suc, _+_, _≤_, _<_, min}
 use native.Mathlib.Omega.{arith}
 use native.Mathlib.Numerals.{add-one}
+use borrow.Author.Tests.{eq-eqb, ne-eqb}
 use lib.Dec.{eqb}
 use lib.ListN.{length, take, set, length-append, length-set}
 use lib.Seq.{take-all, take-suc-set, take-append-le}
@@ -27,22 +28,50 @@ pieces-some separator [] P f = f [] []
 pieces-some separator (b ∷ s) P f =
     ⊎-elim (λ t. rw t (f [] (pieces separator s))) (λ t. rw t (onto-some b (pieces separator s) P f)) (either (eqb b separator))
 
--- ---- lines, where some of the first is read already
+-- ---- lines, where some of the first has begun
 
-abbrev pub prefixed : List ℕ → List (List ℕ) → List (List ℕ)
+abbrev prefixed : List ℕ → List (List ℕ) → List (List ℕ)
 prefixed s [] = s ∷ []
 prefixed s (q ∷ qs) = (s ++ q) ∷ qs
 
-pub prefixed-onto : (s : List ℕ) (b : ℕ) (ps : List (List ℕ)) → prefixed s (onto b ps) ≡ prefixed (s ++ (b ∷ [])) ps
+prefixed-onto : (s : List ℕ) (b : ℕ) (ps : List (List ℕ)) → prefixed s (onto b ps) ≡ prefixed (s ++ (b ∷ [])) ps
 prefixed-onto s b [] = refl
 prefixed-onto s b (q ∷ qs) = ap (λ l. l ∷ qs) (sym (append-assoc s (b ∷ []) q))
 
-pub prefixed-none : (bytes : List ℕ) → prefixed [] (pieces lf bytes) ≡ pieces lf bytes
+prefixed-none : (bytes : List ℕ) → prefixed [] (pieces lf bytes) ≡ pieces lf bytes
 prefixed-none bytes = pieces-some lf bytes (λ ps. prefixed [] ps ≡ ps) (λ q qs. refl)
 
-pub not-last : (l bytes : List ℕ) → withoutEmptyLast (l ∷ pieces lf bytes) ≡ l ∷ withoutEmptyLast (pieces lf bytes)
+not-last : (l bytes : List ℕ) → withoutEmptyLast (l ∷ pieces lf bytes) ≡ l ∷ withoutEmptyLast (pieces lf bytes)
 unfolding withoutEmptyLast
 not-last l bytes = pieces-some lf bytes (λ ps. withoutEmptyLast (l ∷ ps) ≡ l ∷ withoutEmptyLast ps) (λ q qs. refl)
+
+-- the lines of what has begun of a line and the bytes behind it
+unfoldable pub linesAhead : (begun bytes : List ℕ) → List (List ℕ)
+linesAhead begun bytes = withoutEmptyLast (prefixed begun (pieces lf bytes))
+
+pub ahead-first : (bytes : List ℕ) → linesAhead [] bytes ≡ linesOf bytes
+unfolding linesAhead linesOf
+ahead-first bytes = ap withoutEmptyLast (prefixed-none bytes)
+
+pub ahead-none : linesAhead [] [] ≡ []
+unfolding linesAhead pieces withoutEmptyLast
+ahead-none = refl
+
+pub ahead-last : (b : ℕ) (begun : List ℕ) → linesAhead (b ∷ begun) [] ≡ (b ∷ begun) ∷ []
+unfolding linesAhead pieces withoutEmptyLast
+ahead-last b begun = ap (λ l. (b ∷ l) ∷ []) (append-nil begun)
+
+pub ahead-lf : (begun bytes : List ℕ) (b : ℕ) → b ≡ lf → linesAhead begun (b ∷ bytes) ≡ begun ∷ linesAhead [] bytes
+unfolding linesAhead pieces
+ahead-lf begun bytes b e =
+    rw (eq-eqb b lf e)
+    (not-last (begun ++ []) bytes
+    ∙ ap (λ l. l ∷ withoutEmptyLast (pieces lf bytes)) (append-nil begun)
+    ∙ ap (λ ls. begun ∷ withoutEmptyLast ls) (sym (prefixed-none bytes)))
+
+pub ahead-byte : (begun bytes : List ℕ) (b : ℕ) → (b ≡ lf → ⊥) → linesAhead begun (b ∷ bytes) ≡ linesAhead (begun ++ (b ∷ [])) bytes
+unfolding linesAhead pieces
+ahead-byte begun bytes b e = rw (ne-eqb b lf e) (ap withoutEmptyLast (prefixed-onto begun b (pieces lf bytes)))
 
 -- a text has no more lines than bytes
 onto-lines : (b : ℕ) (ps : List (List ℕ)) → length (withoutEmptyLast (onto b ps)) ≤ suc (length (withoutEmptyLast ps))

@@ -12,8 +12,7 @@ use lib.ListN.{length, take, set, length-set}
 use Rattle.rules.specs.Counting.{joined}
 use Rattle.rules.specs.Answers.{judge}
 use Rattle.rules.specs.Text.{lf}
-use Rattle.rules.specs.Lines.{onto, pieces}
-use Rattle.rules.specs.Output.{withoutEmptyLast, linesOf}
+use Rattle.rules.specs.Output.{linesOf}
 use Rattle.rules.specs.Format.{Shape, shapeOf, lineRules}
 use Rattle.rules.specs.Translation.{TextReading, textBegun, shapeDue, lineRead, readTextLine, readFurther, readTextLines, readText}
 use Rattle.rules.specs.declared.FormatLine.{FormatLine}
@@ -21,7 +20,7 @@ use Rattle.rules.specs.declared.Refusal.{Refusal}
 use Rattle.rules.specs.declared.Verdict.{Verdict}
 use Rattle.rules.specs.declared.Verdict.the-variants.{Accepted, Refused}
 use Rattle.rules.proofs.Bools.{either, below-or}
-use Rattle.rules.proofs.Cut.{prefixed, prefixed-onto, prefixed-none, not-last, lines-most, Holds, holds-none, holds-more, holds-full}
+use Rattle.rules.proofs.Cut.{linesAhead, ahead-first, ahead-none, ahead-last, ahead-lf, ahead-byte, lines-most, Holds, holds-none, holds-more, holds-full}
 use Rattle.textlines.specs.Says.{saysAs}
 use Rattle.textlines.specs.declared.Said.{Said}
 use Rattle.translator.specs.Intake.{Memory, keptIn, mostLines, oneMore, Taken, taken, afterLine, unlessRefused, endLine, headRoom, withHeld, takeByte, takeAll, begun, lastLine}
@@ -130,34 +129,6 @@ pub all-lines : (reading : TextReading) (ls : List (List ℕ)) → foldl step re
 all-lines reading [] = omega arith
 all-lines reading (l ∷ ls) = omega (arith, all-lines (step reading l) ls, further-lines (reading .verdict) reading l)
 
--- ---- the lines ahead, where some of the first has begun
-
-abbrev ahead : (begun bytes : List ℕ) → List (List ℕ)
-ahead begun bytes = withoutEmptyLast (prefixed begun (pieces lf bytes))
-
-pub ahead-first : (bytes : List ℕ) → ahead [] bytes ≡ linesOf bytes
-unfolding linesOf
-ahead-first bytes = ap withoutEmptyLast (prefixed-none bytes)
-
-ahead-none : ahead [] [] ≡ []
-unfolding pieces withoutEmptyLast
-ahead-none = refl
-
-ahead-last : (b : ℕ) (begun : List ℕ) → ahead (b ∷ begun) [] ≡ (b ∷ begun) ∷ []
-unfolding pieces withoutEmptyLast
-ahead-last b begun = ap (λ l. (b ∷ l) ∷ []) (append-nil begun)
-
-ahead-lf : (begun bytes : List ℕ) (b : ℕ) → b ≡ lf → ahead begun (b ∷ bytes) ≡ begun ∷ ahead [] bytes
-unfolding pieces
-ahead-lf begun bytes b e =
-    rw (eq-eqb b lf e)
-    (not-last (begun ++ []) bytes ∙ ap (λ l. l ∷ withoutEmptyLast (pieces lf bytes)) (append-nil begun)
-    ∙ ap (λ ls. begun ∷ withoutEmptyLast ls) (sym (prefixed-none bytes)))
-
-ahead-byte : (begun bytes : List ℕ) (b : ℕ) → (b ≡ lf → ⊥) → ahead begun (b ∷ bytes) ≡ ahead (begun ++ (b ∷ [])) bytes
-unfolding pieces
-ahead-byte begun bytes b e = rw (ne-eqb b lf e) (ap withoutEmptyLast (prefixed-onto begun b (pieces lf bytes)))
-
 -- ---- the whole
 
 module _ (L : Laws) where
@@ -170,13 +141,13 @@ module _ (L : Laws) where
 
   -- where the line that has begun is held, both readings of it and of the bytes behind it go together
   abbrev Read : List ℕ → TextReading → Taken → List ℕ → Type 0
-  Read bytes reading t begun = Simulates L (foldl step reading (ahead begun bytes)) (lastLine (takeAll t bytes))
+  Read bytes reading t begun = Simulates L (foldl step reading (linesAhead begun bytes)) (lastLine (takeAll t bytes))
 
   module _ (reading : TextReading) (t : Taken) (s : Simulates L reading t) where
     read-refused : (bytes begun : List ℕ) (why : Refusal) → reading .verdict ≡ Refused why → Read bytes reading t begun
     read-refused bytes begun why e =
-        simulates-as (foldl step reading (ahead begun bytes)) reading (lastLine (takeAll t bytes)) t
-        (lines-stay reading why (ahead begun bytes) e)
+        simulates-as (foldl step reading (linesAhead begun bytes)) reading (lastLine (takeAll t bytes)) t
+        (lines-stay reading why (linesAhead begun bytes) e)
         (ap lastLine (bytes-stay t why bytes (s .verdict ∙ e)) ∙ last-stays t why (s .verdict ∙ e))
         s
 
@@ -196,21 +167,21 @@ module _ (L : Laws) where
         → Read (b ∷ bytes) reading t begun
     unfolding takeAll
     read-lf bytes begun b e v rest =
-        simulates-as _ (foldl step (readTextLine reading begun) (ahead [] bytes)) _ (lastLine (takeAll (endLine t) bytes))
-        (ap (foldl step reading) (ahead-lf begun bytes b e) ∙ ap (λ r. foldl step r (ahead [] bytes)) (step-reads reading begun v))
+        simulates-as _ (foldl step (readTextLine reading begun) (linesAhead [] bytes)) _ (lastLine (takeAll (endLine t) bytes))
+        (ap (foldl step reading) (ahead-lf begun bytes b e) ∙ ap (λ r. foldl step r (linesAhead [] bytes)) (step-reads reading begun v))
         (ap (λ u. lastLine (takeAll u bytes)) (byte-ends t b (s .verdict ∙ v) e))
         rest
 
     read-byte : (bytes begun : List ℕ) (b : ℕ) → (b ≡ lf → ⊥) → (u : Taken) → takeByte t b ≡ u → Read bytes reading u (begun ++ (b ∷ [])) → Read (b ∷ bytes) reading t begun
     unfolding takeAll
     read-byte bytes begun b e u f rest =
-        simulates-as _ (foldl step reading (ahead (begun ++ (b ∷ [])) bytes)) _ (lastLine (takeAll u bytes))
+        simulates-as _ (foldl step reading (linesAhead (begun ++ (b ∷ [])) bytes)) _ (lastLine (takeAll u bytes))
         (ap (foldl step reading) (ahead-byte begun bytes b e))
         (ap (λ u. lastLine (takeAll u bytes)) f)
         rest
 
   read-all : (bytes : List ℕ) (reading : TextReading) (t : Taken) (begun : List ℕ) → Simulates L reading t → Holds headRoom (t .intake .held) (t .line) begun
-      → reading .lines + length (ahead begun bytes) < mostLines → Read bytes reading t begun
+      → reading .lines + length (linesAhead begun bytes) < mostLines → Read bytes reading t begun
   read-all [] reading t begun s h l =
       by-verdict (reading .verdict) (Read [] reading t begun) (λ v. read-end reading t s begun v (omega arith) h) (λ why e. read-refused reading t s [] begun why e)
   read-all (b ∷ bytes) reading t begun s h l =
@@ -226,7 +197,7 @@ module _ (L : Laws) where
       (omega (arith, read-lines reading begun, ap length (ahead-lf begun bytes b e)))))
       (λ c.
       let e : b ≡ lf → ⊥ = eqb-false b lf c in
-      let few : reading .lines + length (ahead (begun ++ (b ∷ [])) bytes) < mostLines = omega (arith, ap length (ahead-byte begun bytes b e)) in
+      let few : reading .lines + length (linesAhead (begun ++ (b ∷ [])) bytes) < mostLines = omega (arith, ap length (ahead-byte begun bytes b e)) in
       let more : Taken = taken (withHeld (t .intake .held + 1) (t .intake)) (t .memory) (set (t .line) (t .intake .held) b) in
       ⊎-elim
       (λ r.
@@ -245,6 +216,6 @@ module _ (L : Laws) where
       → Simulates L (readText text) (lastLine (takeAll t text))
   unfolding readText readTextLines
   whole t text s h l =
-      simulates-as _ (foldl step textBegun (ahead [] text)) _ (lastLine (takeAll t text))
+      simulates-as _ (foldl step textBegun (linesAhead [] text)) _ (lastLine (takeAll t text))
       (ap (foldl step textBegun) (sym (ahead-first text))) refl
       (read-all text textBegun t [] s h (omega (arith, lines-most text, ap length (ahead-first text))))

@@ -24,7 +24,7 @@ use Rattle.rules.specs.declared.Verdict.{Verdict}
 use Rattle.rules.specs.declared.Verdict.the-variants.{Accepted, Refused}
 use Rattle.rules.proofs.Bools.{either, clash}
 use Rattle.reader.specs.Bodies.{bodiesRules}
-use Rattle.textlines.specs.Says.{numbersIn, saidBy, saysAs}
+use Rattle.textlines.specs.Says.{numbersIn, saidBy, shapeSays, saysAs}
 use Rattle.bodies.specs.Keeping.{keeps, nothingKept, goalRoom, actionsRoom, keepSize, keepStart, keepGoal, keepPrecondition, keepEffect, keepAction, Sound}
 use Rattle.bodies.specs.declared.Kept.{Kept}
 use Rattle.bodies.specs.declared.Excess.the-variants.{Within, Lengths, Actions}
@@ -453,7 +453,7 @@ module _ (L : Laws) where
 
     pub simulates-line : (text : List ℕ) → reading .verdict ≡ Accepted → reading .lines < mostLines → take (t .intake .held) (t .line) ≡ take headRoom text
         → Simulates (readTextLine reading text) (endLine t)
-    unfolding saysAs
+    unfolding saysAs shapeSays
     simulates-line text v l same =
         rw (line-read text, line-ends text v l same)
         (simulates-said text (judge (lineRules (shapeOf (lineDue (t .intake .position))) (suc (reading .lines)) text)) l refl)
