@@ -25,9 +25,12 @@ use Rattle.rules.specs.declared.Verdict.the-variants.{Accepted, Refused}
 use Rattle.rules.proofs.Bools.{either, clash}
 use Rattle.reader.specs.Bodies.{bodiesRules}
 use Rattle.textlines.specs.Says.{numbersIn, saidBy, shapeSays, saysAs}
+use Rattle.textlines.proofs.Deciding.{decided-by-head}
 use Rattle.bodies.specs.Keeping.{keeps, nothingKept, goalRoom, actionsRoom, keepSize, keepStart, keepGoal, keepPrecondition, keepEffect, keepAction, Sound}
 use Rattle.bodies.specs.declared.Kept.{Kept}
 use Rattle.bodies.specs.declared.Excess.the-variants.{Within, Lengths, Actions}
+use Rattle.bodies.proofs.KeepLengths.{length-keepSize, length-keepStart, length-keepGoal, length-keepPrecondition, length-keepEffect, length-keepAction}
+use Rattle.bodies.proofs.States.{States, BeforeOperators, before-size, before-start, before-goal, states-size, states-start, states-goal, states-precondition, states-effect, states-action}
 use Rattle.translator.specs.Position.{firstPosition, dueIn, lineDue, movedOn}
 use Rattle.translator.specs.Intake.{Memory, KeptBodies, keptIn, inSizes, inStart, inGoal, inActions, keepOld, keepLine, mostLines, oneMore, Taken, taken, afterLine, unlessRefused, endLine, headRoom, begun, rulesKept, fileKept}
 use Rattle.translator.specs.declared.position.Position.{Position}
@@ -35,10 +38,6 @@ use Rattle.translator.specs.declared.intake.Intake.{Intake}
 use Rattle.translator.proofs.Stack.{linesDue, first-due, saidFirst, moved, no-end}
 
 -- ---- where in a text an action can be half read
-
-pub record BeforeOperators (s : Stated) : Type 0 where
-  pub no-actions : s .task .actions ≡ []
-  pub no-pairs : s .action ≡ noAction
 
 pub data Stage : Type 0 where
   before outside inside : Stage
@@ -209,44 +208,7 @@ stands-end EndOperator s e h = h
 stands-end AxiomCount s e h = h
 stands-end EndOfText s e h = h
 
--- ---- what is known of the bodies kept
-
-pub record Laws : Type 1 where
-  pub States : Stated → Kept → (sizes start goal actions : List ℕ) → Type 0
-  pub sound : (s : Stated) (k : Kept) (S st g a : List ℕ) → States s k S st g a → Sound k
-  pub nothing : (S st g a : List ℕ) → States nothingStated nothingKept S st g a
-  pub size : (m : ℕ) (s : Stated) (k : Kept) (S st g a : List ℕ) → States s k S st g a → BeforeOperators s → maxVariables ≤ length S
-      → States (withSize m s) (keepSize m (keeps k S) .kept) (keepSize m (keeps k S) .body) st g a
-  pub start : (m : ℕ) (s : Stated) (k : Kept) (S st g a : List ℕ) → States s k S st g a → BeforeOperators s → maxVariables ≤ length st
-      → States (withStart m s) (keepStart m (keeps k st) .kept) S (keepStart m (keeps k st) .body) g a
-  pub goal : (p : Pair) (s : Stated) (k : Kept) (S st g a : List ℕ) → States s k S st g a → BeforeOperators s → goalRoom ≤ length g
-      → States (withGoal p s) (keepGoal p (keeps k g) .kept) S st (keepGoal p (keeps k g) .body) a
-  pub precondition : (p : Pair) (s : Stated) (k : Kept) (S st g a : List ℕ) → States s k S st g a → actionsRoom ≤ length a
-      → States (withPrecondition p s) (keepPrecondition p (keeps k a) .kept) S st g (keepPrecondition p (keeps k a) .body)
-  pub effect : (p : Pair) (s : Stated) (k : Kept) (S st g a : List ℕ) → States s k S st g a → actionsRoom ≤ length a
-      → States (withEffect p s) (keepEffect p (keeps k a) .kept) S st g (keepEffect p (keeps k a) .body)
-  pub action : (s : Stated) (k : Kept) (S st g a : List ℕ) → States s k S st g a → actionsRoom ≤ length a
-      → States (withAction s) (keepAction (keeps k a) .kept) S st g (keepAction (keeps k a) .body)
-  pub size-length : (m : ℕ) (k : Kept) (S : List ℕ) → length (keepSize m (keeps k S) .body) ≡ length S
-  pub start-length : (m : ℕ) (k : Kept) (S : List ℕ) → length (keepStart m (keeps k S) .body) ≡ length S
-  pub goal-length : (p : Pair) (k : Kept) (g : List ℕ) → Sound k → goalRoom ≤ length g → length (keepGoal p (keeps k g) .body) ≡ length g
-  pub precondition-length : (p : Pair) (k : Kept) (a : List ℕ) → Sound k → actionsRoom ≤ length a
-      → length (keepPrecondition p (keeps k a) .body) ≡ length a
-  pub effect-length : (p : Pair) (k : Kept) (a : List ℕ) → Sound k → actionsRoom ≤ length a → length (keepEffect p (keeps k a) .body) ≡ length a
-  pub action-length : (k : Kept) (a : List ℕ) → Sound k → actionsRoom ≤ length a → length (keepAction (keeps k a) .body) ≡ length a
-  pub judged-within : (s : Stated) (k : Kept) (S st g a : List ℕ) → States s k S st g a → k .excess ≡ Within
-      → judge (bodiesRules (take (k .sizes) S) (take (k .starts) st) (take (pairBytes * k .goals) g) (take (k .bytes) a))
-      ≡ judge (taskRules true (λ a. true) (s .task))
-  pub bodies-within : (s : Stated) (k : Kept) (S st g a : List ℕ) → States s k S st g a → k .excess ≡ Within
-      → judge (taskRules true (λ a. true) (s .task)) ≡ Accepted
-      → _≡_ {A = List (List ℕ)} (take (k .sizes) S ∷ take (k .starts) st ∷ take (pairBytes * k .goals) g ∷ take (k .bytes) a ∷ []) (bodiesOf (s .task))
-  pub judged-lengths : (s : Stated) (k : Kept) (S st g a : List ℕ) → States s k S st g a → k .excess ≡ Lengths
-      → judge (taskRules true (λ a. true) (s .task)) ≡ Refused BodyLength
-  pub judged-actions : (s : Stated) (k : Kept) (S st g a : List ℕ) → States s k S st g a → k .excess ≡ Actions → s .action ≡ noAction
-      → judge (taskRules true (λ a. true) (s .task))
-      ≡ inTurn (judge (bodiesRules (take (k .sizes) S) (take (k .starts) st) (take (pairBytes * k .goals) g) (take (k .bytes) a)))
-      (Refused (ActionAtFault (k .actions)))
-  pub decided : (due : FormatLine) (at : ℕ) (line : List ℕ) → saysAs due at line ≡ saysAs due at (take headRoom line)
+-- ---- what is kept
 
 pub unless-accepted : (v : Verdict) (next t : Taken) → v ≡ Accepted → unlessRefused v next t ≡ next
 unless-accepted v next t e = ap (λ x. unlessRefused x next t) e
@@ -254,206 +216,202 @@ unless-accepted v next t e = ap (λ x. unlessRefused x next t) e
 pub unless-refused : (v : Verdict) (why : Refusal) (next t : Taken) → v ≡ Refused why → unlessRefused v next t ≡ t
 unless-refused v why next t e = ap (λ x. unlessRefused x next t) e
 
-module _ (L : Laws) where
-  pub record Keeps (s : Stated) (k : KeptBodies) : Type 0 where
-    pub states : L .States s (k .kept) (k .memory .sizes) (k .memory .start) (k .memory .goal) (k .memory .actions)
-    pub sizes : maxVariables ≤ length (k .memory .sizes)
-    pub start : maxVariables ≤ length (k .memory .start)
-    pub goal : goalRoom ≤ length (k .memory .goal)
-    pub actions : actionsRoom ≤ length (k .memory .actions)
+pub record Keeps (s : Stated) (k : KeptBodies) : Type 0 where
+  pub states : States s (k .kept) (k .memory .sizes) (k .memory .start) (k .memory .goal) (k .memory .actions)
+  pub sizes : maxVariables ≤ length (k .memory .sizes)
+  pub start : maxVariables ≤ length (k .memory .start)
+  pub goal : goalRoom ≤ length (k .memory .goal)
+  pub actions : actionsRoom ≤ length (k .memory .actions)
 
-  module _ (s : Stated) (k : KeptBodies) (h : Keeps s k) where
-    keeps-size : (m : ℕ) → BeforeOperators s → Keeps (withSize m s) (inSizes (keepSize m) k)
-    keeps-size m b =
-        record {
-          states = L .size m s (k .kept) (k .memory .sizes) (k .memory .start) (k .memory .goal) (k .memory .actions) (h .states) b (h .sizes);
-          sizes = omega (arith, h .sizes, L .size-length m (k .kept) (k .memory .sizes));
-          start = h .start;
-          goal = h .goal;
-          actions = h .actions;
-        }
-
-    keeps-start : (m : ℕ) → BeforeOperators s → Keeps (withStart m s) (inStart (keepStart m) k)
-    keeps-start m b =
-        record {
-          states = L .start m s (k .kept) (k .memory .sizes) (k .memory .start) (k .memory .goal) (k .memory .actions) (h .states) b (h .start);
-          sizes = h .sizes;
-          start = omega (arith, h .start, L .start-length m (k .kept) (k .memory .start));
-          goal = h .goal;
-          actions = h .actions;
-        }
-
-    pub sound : Sound (k .kept)
-    sound = L .sound s (k .kept) (k .memory .sizes) (k .memory .start) (k .memory .goal) (k .memory .actions) (h .states)
-
-    keeps-goal : (p : Pair) → BeforeOperators s → Keeps (withGoal p s) (inGoal (keepGoal p) k)
-    keeps-goal p b =
-        record {
-          states = L .goal p s (k .kept) (k .memory .sizes) (k .memory .start) (k .memory .goal) (k .memory .actions) (h .states) b (h .goal);
-          sizes = h .sizes;
-          start = h .start;
-          goal = omega (arith, h .goal, L .goal-length p (k .kept) (k .memory .goal) sound (h .goal));
-          actions = h .actions;
-        }
-
-    keeps-precondition : (p : Pair) → Keeps (withPrecondition p s) (inActions (keepPrecondition p) k)
-    keeps-precondition p =
-        record {
-          states = L .precondition p s (k .kept) (k .memory .sizes) (k .memory .start) (k .memory .goal) (k .memory .actions) (h .states) (h .actions);
-          sizes = h .sizes;
-          start = h .start;
-          goal = h .goal;
-          actions = omega (arith, h .actions, L .precondition-length p (k .kept) (k .memory .actions) sound (h .actions));
-        }
-
-    keeps-effect : (p : Pair) → Keeps (withEffect p s) (inActions (keepEffect p) k)
-    keeps-effect p =
-        record {
-          states = L .effect p s (k .kept) (k .memory .sizes) (k .memory .start) (k .memory .goal) (k .memory .actions) (h .states) (h .actions);
-          sizes = h .sizes;
-          start = h .start;
-          goal = h .goal;
-          actions = omega (arith, h .actions, L .effect-length p (k .kept) (k .memory .actions) sound (h .actions));
-        }
-
-    keeps-action : Keeps (withAction s) (inActions keepAction k)
-    keeps-action =
-        record {
-          states = L .action s (k .kept) (k .memory .sizes) (k .memory .start) (k .memory .goal) (k .memory .actions) (h .states) (h .actions);
-          sizes = h .sizes;
-          start = h .start;
-          goal = h .goal;
-          actions = omega (arith, h .actions, L .action-length (k .kept) (k .memory .actions) sound (h .actions));
-        }
-
-  -- an effect's old value is a precondition where there is one
-  keeps-old : (s : Stated) (k : KeptBodies) → Keeps s k → (text : List ℕ)
-      → Keeps (stated (shapeOf Effect) text s) (keepLine Effect (numbersIn (shapeOf Effect) text) k)
-  unfolding stated keepLine numbersIn
-  keeps-old s k h text =
-      ⊎-elim
-      (λ t.
-      rw t
-      (keeps-effect (withPrecondition (oldFact text) s) (inActions (keepPrecondition (oldFact text)) k) (keeps-precondition s k h (oldFact text))
-      (newFact text)))
-      (λ t. rw t (keeps-effect s k h (newFact text)))
-      (either (hasOld text))
-
-  -- what a line states is kept
-  pub keeps-line : (due : FormatLine) (text : List ℕ) (s : Stated) (k : KeptBodies) → Stands (stageOf due) s → Keeps s k
-      → Keeps (stated (shapeOf due) text s) (keepLine due (numbersIn (shapeOf due) text) k)
-  unfolding stated keepLine numbersIn
-  keeps-line BeginVersion text s k b h = h
-  keeps-line Version text s k b h = h
-  keeps-line EndVersion text s k b h = h
-  keeps-line BeginMetric text s k b h = h
-  keeps-line Metric text s k b h = h
-  keeps-line EndMetric text s k b h = h
-  keeps-line VariableCount text s k b h = h
-  keeps-line BeginVariable text s k b h = h
-  keeps-line VariableName text s k b h = h
-  keeps-line AxiomLayer text s k b h = h
-  keeps-line Range text s k b h = keeps-size s k h (lineNumber text) b
-  keeps-line AtomName text s k b h = h
-  keeps-line EndVariable text s k b h = h
-  keeps-line MutexGroupCount text s k b h = h
-  keeps-line BeginMutexGroup text s k b h = h
-  keeps-line MutexFactCount text s k b h = h
-  keeps-line MutexFact text s k b h = h
-  keeps-line EndMutexGroup text s k b h = h
-  keeps-line BeginState text s k b h = h
-  keeps-line StateValue text s k b h = keeps-start s k h (lineNumber text) b
-  keeps-line EndState text s k b h = h
-  keeps-line BeginGoal text s k b h = h
-  keeps-line GoalCount text s k b h = h
-  keeps-line GoalFact text s k b h = keeps-goal s k h (factIn text) b
-  keeps-line EndGoal text s k b h = h
-  keeps-line OperatorCount text s k b h = h
-  keeps-line BeginOperator text s k b h = h
-  keeps-line OperatorName text s k b h = h
-  keeps-line PrevailCount text s k b h = h
-  keeps-line PrevailCondition text s k b h = keeps-precondition s k h (factIn text)
-  keeps-line EffectCount text s k b h = h
-  keeps-line Effect text s k b h = keeps-old s k h text
-  keeps-line Cost text s k b h = keeps-action s k h
-  keeps-line EndOperator text s k b h = h
-  keeps-line AxiomCount text s k b h = h
-  keeps-line EndOfText text s k b h = h
-
-  -- a position, what has been stated up to it, and what is kept
-  pub record Follows (s : Stated) (p : Position) (k : KeptBodies) : Type 0 where
-    pub stands : Stands (stageOf (lineDue p)) s
-    pub keeps : Keeps s k
-
-  stands-next : (s : Stated) (p : Position) → Stands (stageOf (p .line)) s → Stands (stageOf (lineDue p)) s
-  unfolding lineDue
-  stands-next s p h = rw (stage-due (p .line) (p .inner) (p .outer)) h
-
-  pub follows-line : (s : Stated) (p : Position) (k : KeptBodies) (text : List ℕ) → isEnd (shapeOf (lineDue p)) ≡ false → Follows s p k
-      → Follows (stated (shapeOf (lineDue p)) text s) (movedOn (lineDue p) (saidFirst (lineDue p) text) p)
-      (keepLine (lineDue p) (numbersIn (shapeOf (lineDue p)) text) k)
-  follows-line s p k text e f =
-      let due : FormatLine = lineDue p in
+module _ (s : Stated) (k : KeptBodies) (h : Keeps s k) where
+  keeps-size : (m : ℕ) → BeforeOperators s → Keeps (withSize m s) (inSizes (keepSize m) k)
+  keeps-size m b =
       record {
-        stands = stands-next (stated (shapeOf due) text s) (movedOn due (saidFirst due text) p) (stands-line p (saidFirst due text) text s due e (f .stands));
-        keeps = keeps-line due text s k (f .stands) (f .keeps);
+        states = states-size s (k .kept) (k .memory .sizes) (k .memory .start) (k .memory .goal) (k .memory .actions) (h .states) m (h .sizes) b;
+        sizes = omega (arith, h .sizes, length-keepSize (k .kept) (k .memory .sizes) m);
+        start = h .start;
+        goal = h .goal;
+        actions = h .actions;
       }
 
-  pub follows-end : (s : Stated) (p : Position) (k : KeptBodies) → Follows s p k → isEnd (shapeOf (lineDue p)) ≡ true → s .action ≡ noAction
-  follows-end s p k f e = stands-end (lineDue p) s e (f .stands)
+  keeps-start : (m : ℕ) → BeforeOperators s → Keeps (withStart m s) (inStart (keepStart m) k)
+  keeps-start m b =
+      record {
+        states = states-start s (k .kept) (k .memory .sizes) (k .memory .start) (k .memory .goal) (k .memory .actions) (h .states) m (h .start) b;
+        sizes = h .sizes;
+        start = omega (arith, h .start, length-keepStart (k .kept) (k .memory .start) m);
+        goal = h .goal;
+        actions = h .actions;
+      }
 
-  -- ---- the two readings
+  keeps-goal : (p : Pair) → BeforeOperators s → Keeps (withGoal p s) (inGoal (keepGoal p) k)
+  keeps-goal p b =
+      record {
+        states = states-goal s (k .kept) (k .memory .sizes) (k .memory .start) (k .memory .goal) (k .memory .actions) (h .states) p b;
+        sizes = h .sizes;
+        start = h .start;
+        goal = omega (arith, h .goal, length-keepGoal (k .kept) (k .memory .goal) p (h .goal));
+        actions = h .actions;
+      }
 
-  pub record Simulates (reading : TextReading) (t : Taken) : Type 0 where
-    pub verdict : t .intake .verdict ≡ reading .verdict
-    pub lines : t .intake .lines ≡ reading .lines
-    pub due : reading .due ≡ linesDue (t .intake .position)
-    pub follows : Follows (reading .stated) (t .intake .position) (keptIn (t .intake .kept) (t .memory))
+  keeps-precondition : (p : Pair) → Keeps (withPrecondition p s) (inActions (keepPrecondition p) k)
+  keeps-precondition p =
+      record {
+        states = states-precondition s (k .kept) (k .memory .sizes) (k .memory .start) (k .memory .goal) (k .memory .actions) (h .states) p (h .actions);
+        sizes = h .sizes;
+        start = h .start;
+        goal = h .goal;
+        actions = omega (arith, h .actions, length-keepPrecondition (k .kept) (k .memory .actions) (h .states .sound) (h .actions) p);
+      }
 
-  module _ (reading : TextReading) (t : Taken) (h : Simulates reading t) where
-    pub due-next : getD (reading .due) 0 EndOfText ≡ lineDue (t .intake .position)
-    due-next = ap (λ l. getD l 0 EndOfText) (h .due) ∙ first-due (t .intake .position)
+  keeps-effect : (p : Pair) → Keeps (withEffect p s) (inActions (keepEffect p) k)
+  keeps-effect p =
+      record {
+        states = states-effect s (k .kept) (k .memory .sizes) (k .memory .start) (k .memory .goal) (k .memory .actions) (h .states) p (h .actions);
+        sizes = h .sizes;
+        start = h .start;
+        goal = h .goal;
+        actions = omega (arith, h .actions, length-keepEffect (k .kept) (k .memory .actions) (h .states .sound) (h .actions) p);
+      }
 
-    pub next-line : reading .lines < mostLines → oneMore (t .intake .lines) ≡ suc (reading .lines)
-    next-line l = omega (arith, h .lines)
+  keeps-action : Keeps (withAction s) (inActions keepAction k)
+  keeps-action =
+      record {
+        states = states-action s (k .kept) (k .memory .sizes) (k .memory .start) (k .memory .goal) (k .memory .actions) (h .states) (h .actions);
+        sizes = h .sizes;
+        start = h .start;
+        goal = h .goal;
+        actions = omega (arith, h .actions, length-keepAction (k .kept) (k .memory .actions) (h .states .sound) (h .actions));
+      }
 
-    simulates-said : (text : List ℕ) (v : Verdict) → reading .lines < mostLines
-        → judge (lineRules (shapeOf (lineDue (t .intake .position))) (suc (reading .lines)) text) ≡ v
-        → Simulates (lineRead v (shapeOf (lineDue (t .intake .position))) reading text)
-        (afterLine (saidBy v (numbersIn (shapeOf (lineDue (t .intake .position))) text)) (lineDue (t .intake .position)) (t .intake) (t .memory) (t .line))
-    simulates-said text Accepted l e =
-        let p : Position = t .intake .position in
-        let on : isEnd (shapeOf (lineDue p)) ≡ false = no-end (shapeOf (lineDue p)) (suc (reading .lines)) text e in
-        record {
-          verdict = refl;
-          lines = next-line l;
-          due = ap (λ ls. linesAnnounced (shapeOf (lineDue p)) text ++ tail ls) (h .due) ∙ sym (moved p text on);
-          follows = follows-line (reading .stated) p (keptIn (t .intake .kept) (t .memory)) text on (h .follows);
-        }
-    simulates-said text (Refused why) l e = record { verdict = refl; lines = h .lines; due = h .due; follows = h .follows }
+-- an effect's old value is a precondition where there is one
+keeps-old : (s : Stated) (k : KeptBodies) → Keeps s k → (text : List ℕ)
+    → Keeps (stated (shapeOf Effect) text s) (keepLine Effect (numbersIn (shapeOf Effect) text) k)
+unfolding stated keepLine numbersIn
+keeps-old s k h text =
+    ⊎-elim
+    (λ t.
+    rw t
+    (keeps-effect (withPrecondition (oldFact text) s) (inActions (keepPrecondition (oldFact text)) k) (keeps-precondition s k h (oldFact text))
+    (newFact text)))
+    (λ t. rw t (keeps-effect s k h (newFact text)))
+    (either (hasOld text))
 
-    -- the first bytes of a line, held, are read as the line
-    line-ends : (text : List ℕ) → reading .verdict ≡ Accepted → reading .lines < mostLines → take (t .intake .held) (t .line) ≡ take headRoom text
-        → endLine t
-        ≡ afterLine (saysAs (lineDue (t .intake .position)) (suc (reading .lines)) text) (lineDue (t .intake .position)) (t .intake) (t .memory) (t .line)
-    unfolding endLine
-    line-ends text v l same =
-        let due : FormatLine = lineDue (t .intake .position) in
-        unless-accepted (t .intake .verdict) _ t (h .verdict ∙ v)
-        ∙ ap (λ said. afterLine said due (t .intake) (t .memory) (t .line))
-        (ap (saysAs due (oneMore (t .intake .lines))) same
-        ∙ sym (L .decided due (oneMore (t .intake .lines)) text)
-        ∙ ap (λ at. saysAs due at text) (next-line l))
+-- what a line states is kept
+pub keeps-line : (due : FormatLine) (text : List ℕ) (s : Stated) (k : KeptBodies) → Stands (stageOf due) s → Keeps s k
+    → Keeps (stated (shapeOf due) text s) (keepLine due (numbersIn (shapeOf due) text) k)
+unfolding stated keepLine numbersIn
+keeps-line BeginVersion text s k b h = h
+keeps-line Version text s k b h = h
+keeps-line EndVersion text s k b h = h
+keeps-line BeginMetric text s k b h = h
+keeps-line Metric text s k b h = h
+keeps-line EndMetric text s k b h = h
+keeps-line VariableCount text s k b h = h
+keeps-line BeginVariable text s k b h = h
+keeps-line VariableName text s k b h = h
+keeps-line AxiomLayer text s k b h = h
+keeps-line Range text s k b h = keeps-size s k h (lineNumber text) b
+keeps-line AtomName text s k b h = h
+keeps-line EndVariable text s k b h = h
+keeps-line MutexGroupCount text s k b h = h
+keeps-line BeginMutexGroup text s k b h = h
+keeps-line MutexFactCount text s k b h = h
+keeps-line MutexFact text s k b h = h
+keeps-line EndMutexGroup text s k b h = h
+keeps-line BeginState text s k b h = h
+keeps-line StateValue text s k b h = keeps-start s k h (lineNumber text) b
+keeps-line EndState text s k b h = h
+keeps-line BeginGoal text s k b h = h
+keeps-line GoalCount text s k b h = h
+keeps-line GoalFact text s k b h = keeps-goal s k h (factIn text) b
+keeps-line EndGoal text s k b h = h
+keeps-line OperatorCount text s k b h = h
+keeps-line BeginOperator text s k b h = h
+keeps-line OperatorName text s k b h = h
+keeps-line PrevailCount text s k b h = h
+keeps-line PrevailCondition text s k b h = keeps-precondition s k h (factIn text)
+keeps-line EffectCount text s k b h = h
+keeps-line Effect text s k b h = keeps-old s k h text
+keeps-line Cost text s k b h = keeps-action s k h
+keeps-line EndOperator text s k b h = h
+keeps-line AxiomCount text s k b h = h
+keeps-line EndOfText text s k b h = h
 
-    line-read : (text : List ℕ)
-        → readTextLine reading text
-        ≡ lineRead (judge (lineRules (shapeOf (lineDue (t .intake .position))) (suc (reading .lines)) text)) (shapeOf (lineDue (t .intake .position))) reading text
-    unfolding readTextLine shapeDue
-    line-read text = ap (λ due. lineRead (judge (lineRules (shapeOf due) (suc (reading .lines)) text)) (shapeOf due) reading text) due-next
+-- a position, what has been stated up to it, and what is kept
+pub record Follows (s : Stated) (p : Position) (k : KeptBodies) : Type 0 where
+  pub stands : Stands (stageOf (lineDue p)) s
+  pub keeps : Keeps s k
 
-    pub simulates-line : (text : List ℕ) → reading .verdict ≡ Accepted → reading .lines < mostLines → take (t .intake .held) (t .line) ≡ take headRoom text
-        → Simulates (readTextLine reading text) (endLine t)
-    unfolding saysAs shapeSays
-    simulates-line text v l same =
-        rw (line-read text, line-ends text v l same)
-        (simulates-said text (judge (lineRules (shapeOf (lineDue (t .intake .position))) (suc (reading .lines)) text)) l refl)
+stands-next : (s : Stated) (p : Position) → Stands (stageOf (p .line)) s → Stands (stageOf (lineDue p)) s
+unfolding lineDue
+stands-next s p h = rw (stage-due (p .line) (p .inner) (p .outer)) h
+
+pub follows-line : (s : Stated) (p : Position) (k : KeptBodies) (text : List ℕ) → isEnd (shapeOf (lineDue p)) ≡ false → Follows s p k
+    → Follows (stated (shapeOf (lineDue p)) text s) (movedOn (lineDue p) (saidFirst (lineDue p) text) p)
+    (keepLine (lineDue p) (numbersIn (shapeOf (lineDue p)) text) k)
+follows-line s p k text e f =
+    let due : FormatLine = lineDue p in
+    record {
+      stands = stands-next (stated (shapeOf due) text s) (movedOn due (saidFirst due text) p) (stands-line p (saidFirst due text) text s due e (f .stands));
+      keeps = keeps-line due text s k (f .stands) (f .keeps);
+    }
+
+pub follows-end : (s : Stated) (p : Position) (k : KeptBodies) → Follows s p k → isEnd (shapeOf (lineDue p)) ≡ true → s .action ≡ noAction
+follows-end s p k f e = stands-end (lineDue p) s e (f .stands)
+
+-- ---- the two readings
+
+pub record Simulates (reading : TextReading) (t : Taken) : Type 0 where
+  pub verdict : t .intake .verdict ≡ reading .verdict
+  pub lines : t .intake .lines ≡ reading .lines
+  pub due : reading .due ≡ linesDue (t .intake .position)
+  pub follows : Follows (reading .stated) (t .intake .position) (keptIn (t .intake .kept) (t .memory))
+
+module _ (reading : TextReading) (t : Taken) (h : Simulates reading t) where
+  pub due-next : getD (reading .due) 0 EndOfText ≡ lineDue (t .intake .position)
+  due-next = ap (λ l. getD l 0 EndOfText) (h .due) ∙ first-due (t .intake .position)
+
+  pub next-line : reading .lines < mostLines → oneMore (t .intake .lines) ≡ suc (reading .lines)
+  next-line l = omega (arith, h .lines)
+
+  simulates-said : (text : List ℕ) (v : Verdict) → reading .lines < mostLines
+      → judge (lineRules (shapeOf (lineDue (t .intake .position))) (suc (reading .lines)) text) ≡ v
+      → Simulates (lineRead v (shapeOf (lineDue (t .intake .position))) reading text)
+      (afterLine (saidBy v (numbersIn (shapeOf (lineDue (t .intake .position))) text)) (lineDue (t .intake .position)) (t .intake) (t .memory) (t .line))
+  simulates-said text Accepted l e =
+      let p : Position = t .intake .position in
+      let on : isEnd (shapeOf (lineDue p)) ≡ false = no-end (shapeOf (lineDue p)) (suc (reading .lines)) text e in
+      record {
+        verdict = refl;
+        lines = next-line l;
+        due = ap (λ ls. linesAnnounced (shapeOf (lineDue p)) text ++ tail ls) (h .due) ∙ sym (moved p text on);
+        follows = follows-line (reading .stated) p (keptIn (t .intake .kept) (t .memory)) text on (h .follows);
+      }
+  simulates-said text (Refused why) l e = record { verdict = refl; lines = h .lines; due = h .due; follows = h .follows }
+
+  -- the first bytes of a line, held, are read as the line
+  line-ends : (text : List ℕ) → reading .verdict ≡ Accepted → reading .lines < mostLines → take (t .intake .held) (t .line) ≡ take headRoom text
+      → endLine t
+      ≡ afterLine (saysAs (lineDue (t .intake .position)) (suc (reading .lines)) text) (lineDue (t .intake .position)) (t .intake) (t .memory) (t .line)
+  unfolding endLine
+  line-ends text v l same =
+      let due : FormatLine = lineDue (t .intake .position) in
+      unless-accepted (t .intake .verdict) _ t (h .verdict ∙ v)
+      ∙ ap (λ said. afterLine said due (t .intake) (t .memory) (t .line))
+      (ap (saysAs due (oneMore (t .intake .lines))) same
+      ∙ sym (decided-by-head due (oneMore (t .intake .lines)) text)
+      ∙ ap (λ at. saysAs due at text) (next-line l))
+
+  line-read : (text : List ℕ)
+      → readTextLine reading text
+      ≡ lineRead (judge (lineRules (shapeOf (lineDue (t .intake .position))) (suc (reading .lines)) text)) (shapeOf (lineDue (t .intake .position))) reading text
+  unfolding readTextLine shapeDue
+  line-read text = ap (λ due. lineRead (judge (lineRules (shapeOf due) (suc (reading .lines)) text)) (shapeOf due) reading text) due-next
+
+  pub simulates-line : (text : List ℕ) → reading .verdict ≡ Accepted → reading .lines < mostLines → take (t .intake .held) (t .line) ≡ take headRoom text
+      → Simulates (readTextLine reading text) (endLine t)
+  unfolding saysAs shapeSays
+  simulates-line text v l same =
+      rw (line-read text, line-ends text v l same)
+      (simulates-said text (judge (lineRules (shapeOf (lineDue (t .intake .position))) (suc (reading .lines)) text)) l refl)
