@@ -3,17 +3,15 @@
 use mathlib.Core.Path.{_≡_, refl, sym, ap, _∙_}
 use mathlib.Core.Logic.{⊎-elim}
 use mathlib.Core.Bool.{Bool, true, false, cond}
-use mathlib.Core.List.{List, [], _∷_, _++_, foldl, foldl-append, append-nil}
-use Prim.Native.Nat.{ℕ, suc, _+_, _*_, _≤_, _<_}
+use mathlib.Core.List.{List, [], _∷_, _++_, foldl, foldl-append}
+use Prim.Native.Nat.{ℕ, suc, _+_, _≤_, _<_}
 use native.Mathlib.Omega.{arith}
-use borrow.Author.Tests.{eq-eqb, ne-eqb, eqb-true, eqb-false, le-leb, lt-ltb, le-ltb}
+use borrow.Author.Tests.{eq-eqb, ne-eqb, eqb-true, eqb-false, lt-ltb, le-ltb}
 use lib.Dec.{eqb, ltb}
-use lib.ListN.{length, take, set, length-set}
-use Rattle.rules.specs.Counting.{joined}
+use lib.ListN.{length, take, set}
 use Rattle.rules.specs.Answers.{judge}
 use Rattle.rules.specs.Text.{lf}
-use Rattle.rules.specs.Output.{linesOf}
-use Rattle.rules.specs.Format.{Shape, shapeOf, lineRules}
+use Rattle.rules.specs.Format.{Shape, lineRules}
 use Rattle.rules.specs.Translation.{TextReading, textBegun, shapeDue, lineRead, readTextLine, readFurther, readTextLines, readText}
 use Rattle.rules.specs.declared.FormatLine.{FormatLine}
 use Rattle.rules.specs.declared.Refusal.{Refusal}
@@ -23,10 +21,10 @@ use Rattle.rules.proofs.Bools.{either, below-or}
 use Rattle.rules.proofs.Cut.{linesAhead, ahead-first, ahead-none, ahead-last, ahead-lf, ahead-byte, lines-most, Holds, holds-none, holds-more, holds-full}
 use Rattle.textlines.specs.Says.{saysAs}
 use Rattle.textlines.specs.declared.Said.{Said}
-use Rattle.translator.specs.Intake.{Memory, keptIn, mostLines, oneMore, Taken, taken, afterLine, unlessRefused, endLine, headRoom, withHeld, takeByte, takeAll, begun, lastLine}
+use Rattle.translator.specs.Intake.{Memory, mostLines, oneMore, Taken, taken, afterLine, endLine, headRoom, withHeld, takeByte, takeAll, begun, lastLine}
 use Rattle.translator.specs.Position.{lineDue}
 use Rattle.translator.specs.declared.intake.Intake.{Intake}
-use Rattle.translator.proofs.Simulated.{unless-accepted, unless-refused, Keeps, Simulates, simulates-line}
+use Rattle.translator.proofs.Simulated.{unless-accepted, unless-refused, Simulates, simulates-line}
 
 -- ---- pieces do not matter
 

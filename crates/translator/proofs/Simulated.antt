@@ -2,211 +2,32 @@
 -- Assumes nothing.
 use mathlib.Core.Path.{_≡_, refl, sym, ap, _∙_}
 use mathlib.Core.Logic.{⊎-elim}
-use mathlib.Core.Bool.{Bool, true, false, cond}
-use mathlib.Core.List.{List, [], _∷_, _++_, tail}
-use Prim.Native.Nat.{ℕ, zero, suc, _+_, _*_, _≤_, _<_}
+use mathlib.Core.Bool.{true, false}
+use mathlib.Core.List.{List, _++_, tail}
+use Prim.Native.Nat.{ℕ, suc, _≤_, _<_}
 use native.Mathlib.Omega.{arith}
-use native.Mathlib.Numerals.{add-one}
-use borrow.Author.Tests.{ne-eqb}
-use lib.Dec.{eqb}
 use lib.ListN.{length, take, getD}
-use Rattle.rules.specs.Limits.{maxVariables, pairBytes}
-use Rattle.rules.specs.Answers.{judge, inTurn}
-use Rattle.rules.specs.Task.{Pair, taskRules}
-use Rattle.rules.specs.File.{bodiesOf}
-use Rattle.rules.specs.Format.{Stated, nothingStated, noAction, withSize, withStart, withGoal, withPrecondition, withEffect, withAction, shapeOf, lineRules, lineNumber, numberAt, hasOld, oldFact, newFact, factIn, linesAnnounced, stated}
-use Rattle.rules.specs.Translation.{TextReading, textBegun, shapeDue, lineRead, readTextLine, isEnd}
+use Rattle.rules.specs.Limits.{maxVariables}
+use Rattle.rules.specs.Answers.{judge}
+use Rattle.rules.specs.Task.{Pair}
+use Rattle.rules.specs.Format.{Stated, noAction, withSize, withStart, withGoal, withPrecondition, withEffect, withAction, shapeOf, lineRules, lineNumber, hasOld, oldFact, newFact, factIn, linesAnnounced, stated}
+use Rattle.rules.specs.Translation.{TextReading, shapeDue, lineRead, readTextLine, isEnd}
 use Rattle.rules.specs.declared.FormatLine.{FormatLine}
 use Rattle.rules.specs.declared.FormatLine.the-variants.{BeginVersion, Version, EndVersion, BeginMetric, Metric, EndMetric, VariableCount, BeginVariable, VariableName, AxiomLayer, Range, AtomName, EndVariable, MutexGroupCount, BeginMutexGroup, MutexFactCount, MutexFact, EndMutexGroup, BeginState, StateValue, EndState, BeginGoal, GoalCount, GoalFact, EndGoal, OperatorCount, BeginOperator, OperatorName, PrevailCount, PrevailCondition, EffectCount, Effect, Cost, EndOperator, AxiomCount, EndOfText}
 use Rattle.rules.specs.declared.Refusal.{Refusal}
-use Rattle.rules.specs.declared.Refusal.the-variants.{BodyLength, ActionAtFault}
 use Rattle.rules.specs.declared.Verdict.{Verdict}
 use Rattle.rules.specs.declared.Verdict.the-variants.{Accepted, Refused}
-use Rattle.rules.proofs.Bools.{either, clash}
-use Rattle.reader.specs.Bodies.{bodiesRules}
+use Rattle.rules.proofs.Bools.{either}
 use Rattle.textlines.specs.Says.{numbersIn, saidBy, shapeSays, saysAs}
 use Rattle.textlines.proofs.Deciding.{decided-by-head}
-use Rattle.bodies.specs.Keeping.{keeps, nothingKept, goalRoom, actionsRoom, keepSize, keepStart, keepGoal, keepPrecondition, keepEffect, keepAction, Sound}
-use Rattle.bodies.specs.declared.Kept.{Kept}
-use Rattle.bodies.specs.declared.Excess.the-variants.{Within, Lengths, Actions}
+use Rattle.bodies.specs.Keeping.{keeps, goalRoom, actionsRoom, keepSize, keepStart, keepGoal, keepPrecondition, keepEffect, keepAction}
 use Rattle.bodies.proofs.KeepLengths.{length-keepSize, length-keepStart, length-keepGoal, length-keepPrecondition, length-keepEffect, length-keepAction}
-use Rattle.bodies.proofs.States.{States, BeforeOperators, before-size, before-start, before-goal, states-size, states-start, states-goal, states-precondition, states-effect, states-action}
-use Rattle.translator.specs.Position.{firstPosition, dueIn, lineDue, movedOn}
-use Rattle.translator.specs.Intake.{Memory, KeptBodies, keptIn, inSizes, inStart, inGoal, inActions, keepOld, keepLine, mostLines, oneMore, Taken, taken, afterLine, unlessRefused, endLine, headRoom, begun, rulesKept, fileKept}
+use Rattle.bodies.proofs.States.{States, BeforeOperators, states-size, states-start, states-goal, states-precondition, states-effect, states-action}
+use Rattle.translator.specs.Position.{lineDue, movedOn}
+use Rattle.translator.specs.Intake.{KeptBodies, keptIn, inSizes, inStart, inGoal, inActions, keepLine, mostLines, oneMore, Taken, afterLine, unlessRefused, endLine, headRoom}
 use Rattle.translator.specs.declared.position.Position.{Position}
-use Rattle.translator.specs.declared.intake.Intake.{Intake}
+use Rattle.translator.proofs.Stages.{stageOf, Stands, stands-next, stands-line, stands-end}
 use Rattle.translator.proofs.Stack.{linesDue, first-due, saidFirst, moved, no-end}
-
--- ---- where in a text an action can be half read
-
-pub data Stage : Type 0 where
-  before outside inside : Stage
-
-abbrev pub stageOf : FormatLine → Stage
-stageOf BeginVersion = before
-stageOf Version = before
-stageOf EndVersion = before
-stageOf BeginMetric = before
-stageOf Metric = before
-stageOf EndMetric = before
-stageOf VariableCount = before
-stageOf BeginVariable = before
-stageOf VariableName = before
-stageOf AxiomLayer = before
-stageOf Range = before
-stageOf AtomName = before
-stageOf EndVariable = before
-stageOf MutexGroupCount = before
-stageOf BeginMutexGroup = before
-stageOf MutexFactCount = before
-stageOf MutexFact = before
-stageOf EndMutexGroup = before
-stageOf BeginState = before
-stageOf StateValue = before
-stageOf EndState = before
-stageOf BeginGoal = before
-stageOf GoalCount = before
-stageOf GoalFact = before
-stageOf EndGoal = before
-stageOf OperatorCount = before
-stageOf BeginOperator = outside
-stageOf OperatorName = outside
-stageOf PrevailCount = outside
-stageOf PrevailCondition = inside
-stageOf EffectCount = inside
-stageOf Effect = inside
-stageOf Cost = inside
-stageOf EndOperator = outside
-stageOf AxiomCount = outside
-stageOf EndOfText = outside
-
--- before the operators there is no action; outside an operator's pairs none is half read
-abbrev pub Stands : Stage → Stated → Type 0
-Stands before s = BeforeOperators s
-Stands outside s = s .action ≡ noAction
-Stands inside s = record {}
-
-either-stage : (over : Bool) (again behind : FormatLine) → stageOf behind ≡ stageOf again → stageOf (cond over behind again) ≡ stageOf again
-either-stage true again behind e = e
-either-stage false again behind e = refl
-
--- repetitions and the line behind them are of one stage
-stage-due : (line : FormatLine) (i o : ℕ) → stageOf (dueIn line i o) ≡ stageOf line
-stage-due BeginVersion i o = refl
-stage-due Version i o = refl
-stage-due EndVersion i o = refl
-stage-due BeginMetric i o = refl
-stage-due Metric i o = refl
-stage-due EndMetric i o = refl
-stage-due VariableCount i o = refl
-stage-due BeginVariable i o = either-stage (eqb o 0) BeginVariable MutexGroupCount refl
-stage-due VariableName i o = refl
-stage-due AxiomLayer i o = refl
-stage-due Range i o = refl
-stage-due AtomName i o = either-stage (eqb i 0) AtomName EndVariable refl
-stage-due EndVariable i o = refl
-stage-due MutexGroupCount i o = refl
-stage-due BeginMutexGroup i o = either-stage (eqb o 0) BeginMutexGroup BeginState refl
-stage-due MutexFactCount i o = refl
-stage-due MutexFact i o = either-stage (eqb i 0) MutexFact EndMutexGroup refl
-stage-due EndMutexGroup i o = refl
-stage-due BeginState i o = refl
-stage-due StateValue i o = either-stage (eqb i 0) StateValue EndState refl
-stage-due EndState i o = refl
-stage-due BeginGoal i o = refl
-stage-due GoalCount i o = refl
-stage-due GoalFact i o = either-stage (eqb i 0) GoalFact EndGoal refl
-stage-due EndGoal i o = refl
-stage-due OperatorCount i o = refl
-stage-due BeginOperator i o = either-stage (eqb o 0) BeginOperator AxiomCount refl
-stage-due OperatorName i o = refl
-stage-due PrevailCount i o = refl
-stage-due PrevailCondition i o = either-stage (eqb i 0) PrevailCondition EffectCount refl
-stage-due EffectCount i o = refl
-stage-due Effect i o = either-stage (eqb i 0) Effect Cost refl
-stage-due Cost i o = refl
-stage-due EndOperator i o = refl
-stage-due AxiomCount i o = refl
-stage-due EndOfText i o = refl
-
-module _ (p : Position) (m : ℕ) (text : List ℕ) (s : Stated) where
-  stands-line : (due : FormatLine) → isEnd (shapeOf due) ≡ false → Stands (stageOf due) s
-      → Stands (stageOf (movedOn due m p .line)) (stated (shapeOf due) text s)
-  unfolding movedOn stated withSize withStart withGoal withAction
-  stands-line BeginVersion e h = h
-  stands-line Version e h = h
-  stands-line EndVersion e h = h
-  stands-line BeginMetric e h = h
-  stands-line Metric e h = h
-  stands-line EndMetric e h = h
-  stands-line VariableCount e h = h
-  stands-line BeginVariable e h = h
-  stands-line VariableName e h = h
-  stands-line AxiomLayer e h = h
-  stands-line Range e h = record { no-actions = h .no-actions; no-pairs = h .no-pairs }
-  stands-line AtomName e h = h
-  stands-line EndVariable e h = h
-  stands-line MutexGroupCount e h = h
-  stands-line BeginMutexGroup e h = h
-  stands-line MutexFactCount e h = h
-  stands-line MutexFact e h = h
-  stands-line EndMutexGroup e h = h
-  stands-line BeginState e h = h
-  stands-line StateValue e h = record { no-actions = h .no-actions; no-pairs = h .no-pairs }
-  stands-line EndState e h = h
-  stands-line BeginGoal e h = h
-  stands-line GoalCount e h = h
-  stands-line GoalFact e h = record { no-actions = h .no-actions; no-pairs = h .no-pairs }
-  stands-line EndGoal e h = h
-  stands-line OperatorCount e h = h .no-pairs
-  stands-line BeginOperator e h = h
-  stands-line OperatorName e h = h
-  stands-line PrevailCount e h = record {}
-  stands-line PrevailCondition e h = record {}
-  stands-line EffectCount e h = record {}
-  stands-line Effect e h = record {}
-  stands-line Cost e h = refl
-  stands-line EndOperator e h = h
-  stands-line AxiomCount e h = h
-  stands-line EndOfText e h = clash refl e
-
-stands-end : (due : FormatLine) (s : Stated) → isEnd (shapeOf due) ≡ true → Stands (stageOf due) s → s .action ≡ noAction
-stands-end BeginVersion s e h = h .no-pairs
-stands-end Version s e h = h .no-pairs
-stands-end EndVersion s e h = h .no-pairs
-stands-end BeginMetric s e h = h .no-pairs
-stands-end Metric s e h = h .no-pairs
-stands-end EndMetric s e h = h .no-pairs
-stands-end VariableCount s e h = h .no-pairs
-stands-end BeginVariable s e h = h .no-pairs
-stands-end VariableName s e h = h .no-pairs
-stands-end AxiomLayer s e h = h .no-pairs
-stands-end Range s e h = h .no-pairs
-stands-end AtomName s e h = h .no-pairs
-stands-end EndVariable s e h = h .no-pairs
-stands-end MutexGroupCount s e h = h .no-pairs
-stands-end BeginMutexGroup s e h = h .no-pairs
-stands-end MutexFactCount s e h = h .no-pairs
-stands-end MutexFact s e h = h .no-pairs
-stands-end EndMutexGroup s e h = h .no-pairs
-stands-end BeginState s e h = h .no-pairs
-stands-end StateValue s e h = h .no-pairs
-stands-end EndState s e h = h .no-pairs
-stands-end BeginGoal s e h = h .no-pairs
-stands-end GoalCount s e h = h .no-pairs
-stands-end GoalFact s e h = h .no-pairs
-stands-end EndGoal s e h = h .no-pairs
-stands-end OperatorCount s e h = h .no-pairs
-stands-end BeginOperator s e h = h
-stands-end OperatorName s e h = h
-stands-end PrevailCount s e h = h
-stands-end PrevailCondition s e h = clash e refl
-stands-end EffectCount s e h = clash e refl
-stands-end Effect s e h = clash e refl
-stands-end Cost s e h = clash e refl
-stands-end EndOperator s e h = h
-stands-end AxiomCount s e h = h
-stands-end EndOfText s e h = h
 
 -- ---- what is kept
 
@@ -342,10 +163,6 @@ keeps-line EndOfText text s k b h = h
 pub record Follows (s : Stated) (p : Position) (k : KeptBodies) : Type 0 where
   pub stands : Stands (stageOf (lineDue p)) s
   pub keeps : Keeps s k
-
-stands-next : (s : Stated) (p : Position) → Stands (stageOf (p .line)) s → Stands (stageOf (lineDue p)) s
-unfolding lineDue
-stands-next s p h = rw (stage-due (p .line) (p .inner) (p .outer)) h
 
 pub follows-line : (s : Stated) (p : Position) (k : KeptBodies) (text : List ℕ) → isEnd (shapeOf (lineDue p)) ≡ false → Follows s p k
     → Follows (stated (shapeOf (lineDue p)) text s) (movedOn (lineDue p) (saidFirst (lineDue p) text) p)

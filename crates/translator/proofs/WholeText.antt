@@ -2,30 +2,29 @@
 -- Assumes nothing.
 use mathlib.Core.Path.{_≡_, refl, sym, ap, _∙_}
 use mathlib.Core.Logic.{⊎-elim}
-use mathlib.Core.Bool.{Bool, true, false, cond, _&&_}
-use mathlib.Core.List.{List, [], _∷_, _++_, foldl, append-nil}
-use Prim.Native.Nat.{ℕ, suc, _+_, _*_, _≤_, _<_}
+use mathlib.Core.Bool.{Bool, true, _&&_}
+use mathlib.Core.List.{List, [], _∷_, _++_, foldl}
+use Prim.Native.Nat.{ℕ, suc, _*_, _≤_, _<_}
 use native.Mathlib.Omega.{arith}
 use borrow.Author.Tests.{le-leb, leb-true, eqb-true, eqb-false}
 use lib.Dec.{eqb, leb}
-use lib.ListN.{length, take, set, length-set}
+use lib.ListN.{length, take, length-set}
 use Rattle.rules.specs.Counting.{joined}
-use Rattle.rules.specs.Limits.{maxVariables, maxGoals, maxActions, maxPairs, maxAction, contentsBytes, pairBytes}
+use Rattle.rules.specs.Limits.{maxVariables, maxGoals, maxActions, maxPairs, maxAction, contentsBytes}
 use Rattle.rules.specs.Answers.{demand, judge, inTurn}
-use Rattle.rules.specs.Task.{Task, taskRules}
-use Rattle.rules.specs.File.{contentsFrom, bodiesOf, fileOf}
+use Rattle.rules.specs.Task.{taskRules}
+use Rattle.rules.specs.File.{contentsFrom, fileOf}
 use Rattle.rules.specs.Text.{lf}
 use Rattle.rules.specs.Output.{linesOf}
 use Rattle.rules.specs.Calls.{roomRule, lentAfter}
 use Rattle.rules.specs.Format.{Stated, nothingStated, noAction, shapeOf, lineRules, stated}
 use Rattle.rules.specs.Translation.{TextReading, textBegun, shapeDue, readTextLines, readText, isEnd, endOfReading, textVerdict, textTask, statedVerdict, translationVerdict, translationAfter}
-use Rattle.rules.specs.declared.FormatLine.{FormatLine}
 use Rattle.rules.specs.declared.Refusal.{Refusal}
-use Rattle.rules.specs.declared.Refusal.the-variants.{BodyLength, ActionAtFault, AgainstFormat}
+use Rattle.rules.specs.declared.Refusal.the-variants.{ActionAtFault, AgainstFormat}
 use Rattle.rules.specs.declared.Verdict.{Verdict}
 use Rattle.rules.specs.declared.Verdict.the-variants.{Accepted, Refused}
-use Rattle.rules.proofs.Bools.{either, clash, and-left, and-right, below-or}
-use Rattle.rules.proofs.Judging.{refused-not, judge-head, judge-append, judge-passed, judge-refused, judge-nil, inTurn-left, inTurn-right}
+use Rattle.rules.proofs.Bools.{either, and-left, and-right, below-or}
+use Rattle.rules.proofs.Judging.{refused-not, judge-head, judge-append, inTurn-left, inTurn-right}
 use Rattle.rules.proofs.Cut.{lines-most, holds-none}
 use Rattle.writer.specs.Laid.{laidOut}
 use Rattle.textlines.specs.Says.{numbersIn, saidBy, shapeSays, saysAs}
@@ -36,12 +35,11 @@ use Rattle.bodies.specs.declared.Excess.the-variants.{Within, Lengths, Actions}
 use Rattle.bodies.proofs.States.{before-nothing, states-begun}
 use Rattle.bodies.proofs.Verdicts.{taskVerdict, verdict-within, bodies-within, verdict-lengths, verdict-actions}
 use Rattle.translator.specs.Position.{firstPosition, lineDue}
-use Rattle.translator.specs.Intake.{Memory, keptIn, mostLines, oneMore, Taken, taken, afterLine, endLine, headRoom, withHeld, takeByte, takeAll, countsFit, lentFits, hasRoom, takeCall, begun, lastLine, rulesKept, fileKept, verdictKept, endVerdict, translation, Ended, endWith, finishCall}
+use Rattle.translator.specs.Intake.{Memory, keptIn, mostLines, oneMore, Taken, taken, afterLine, endLine, headRoom, takeByte, takeAll, countsFit, lentFits, hasRoom, takeCall, begun, lastLine, rulesKept, fileKept, verdictKept, endVerdict, translation, Ended, endWith, finishCall}
 use Rattle.translator.specs.declared.position.Position.{Position}
-use Rattle.translator.specs.declared.intake.Intake.{Intake}
 use Rattle.translator.proofs.Stack.{linesDue, no-end}
 use Rattle.translator.proofs.Simulated.{unless-accepted, unless-refused, Keeps, Follows, follows-line, follows-end, Simulates, due-next, next-line}
-use Rattle.translator.proofs.InPieces.{taken-in-pieces, taken-nothing, by-verdict, chosen-true, chosen-false, byte-ends, byte-held, byte-passed, all-lines, whole}
+use Rattle.translator.proofs.InPieces.{taken-in-pieces, taken-nothing, by-verdict, chosen-true, byte-ends, byte-held, byte-passed, all-lines, whole}
 
 -- ---- verdicts in turn
 
