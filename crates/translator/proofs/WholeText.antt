@@ -216,16 +216,21 @@ unfolding hasRoom countsFit lentFits
 ready-room t r =
     let k : Kept = t .intake .kept in
     let o : Sound k = r .follows .keeps .states .sound in
-    rw
-    (le-leb (k .sizes) maxVariables (o .sizes), le-leb (k .starts) maxVariables (o .starts), le-leb (k .goals) maxGoals (o .goals),
-    le-leb (k .actions) maxActions (o .actions), le-leb (k .bytes) (maxAction * k .actions) (o .bytes),
-    le-leb (k .preconditions) maxPairs (o .preconditions), le-leb (k .effects) maxPairs (o .effects),
-    le-leb (t .intake .held) headRoom (r .held),
-    le-leb maxVariables (length (t .memory .sizes)) (r .follows .keeps .sizes),
-    le-leb maxVariables (length (t .memory .start)) (r .follows .keeps .start),
-    le-leb goalRoom (length (t .memory .goal)) (r .follows .keeps .goal),
-    le-leb actionsRoom (length (t .memory .actions)) (r .follows .keeps .actions),
-    le-leb headRoom (length (t .line)) (r .line))
+    rw (
+      le-leb (k .sizes) maxVariables (o .sizes),
+      le-leb (k .starts) maxVariables (o .starts),
+      le-leb (k .goals) maxGoals (o .goals),
+      le-leb (k .actions) maxActions (o .actions),
+      le-leb (k .bytes) (maxAction * k .actions) (o .bytes),
+      le-leb (k .preconditions) maxPairs (o .preconditions),
+      le-leb (k .effects) maxPairs (o .effects),
+      le-leb (t .intake .held) headRoom (r .held),
+      le-leb maxVariables (length (t .memory .sizes)) (r .follows .keeps .sizes),
+      le-leb maxVariables (length (t .memory .start)) (r .follows .keeps .start),
+      le-leb goalRoom (length (t .memory .goal)) (r .follows .keeps .goal),
+      le-leb actionsRoom (length (t .memory .actions)) (r .follows .keeps .actions),
+      le-leb headRoom (length (t .line)) (r .line),
+    )
 
 call-takes : (t : Taken) (bytes : List ℕ) → Ready t → takeCall t bytes ≡ takeAll t bytes
 unfolding takeCall
