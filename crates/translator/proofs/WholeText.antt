@@ -3,7 +3,7 @@
 use mathlib.Core.Path.{_≡_, refl, sym, ap, _∙_}
 use mathlib.Core.Logic.{⊎-elim}
 use mathlib.Core.Bool.{Bool, true, _&&_}
-use mathlib.Core.List.{List, [], _∷_, _++_, foldl}
+use mathlib.Core.List.{List, [], _∷_, _++_, foldl, append-nil}
 use Prim.Native.Nat.{ℕ, suc, _*_, _≤_, _<_}
 use native.Mathlib.Omega.{arith}
 use borrow.Author.Tests.{le-leb, leb-true, eqb-true, eqb-false}
@@ -313,3 +313,10 @@ module _ (m : Memory) (line : List ℕ) (h : Lent m line) where
       (ends-translated text (lastLine (takeAll t text)) room
       (whole t text simulates-begun (holds-none headRoom line (h .held)) l)
       (lines-few text l))
+
+  -- a text in one piece
+  pub translated-whole : (text room : List ℕ) → length text < mostLines → Translated text room (finishCall (takeCall (taken begun m line) text) room)
+  unfolding joined
+  translated-whole text room l =
+      let e : text ++ [] ≡ text = append-nil text in
+      rw e at (translated (text ∷ []) room (rw e l))
