@@ -1,1 +1,2 @@
 -- What is proved of the reader of the translator's text.
+pub mod PositionLaws
