@@ -1,2 +1,4 @@
 -- What is proved of the reader of the translator's text.
+pub mod KeepLaws
+pub mod LineLaws
 pub mod PositionLaws

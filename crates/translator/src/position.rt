@@ -2,7 +2,7 @@
 use rules::FormatLine;
 ghost use mathlib.Core.Path.{_≡_};
 ghost use Prim.Native.Nat.{_-_};
-ghost use Rattle.translator.specs.Position.{unlessOver, lineDue, to, again, around, repeated, rounds, ofVariables, movedOn};
+ghost use Rattle.translator.specs.Position.{firstPosition, unlessOver, lineDue, to, again, around, repeated, rounds, ofVariables, movedOn};
 
 // The line that is due while its repetitions last: `inner` counts those of single lines, `outer` the variables, groups or operators that are left, the
 // one that is being read with them. The number of variables is needed again for the start values.
@@ -11,6 +11,17 @@ pub struct Position {
     pub inner: usize,
     pub outer: usize,
     pub variables: usize,
+}
+
+pub(crate) fn first_position() -> Position
+    ensures { λ r. ⌜ r ≡ firstPosition ⌝ }
+{
+    Position {
+        line: FormatLine::BeginVersion,
+        inner: 0,
+        outer: 0,
+        variables: 0,
+    }
 }
 
 // Where no repetition is left, the line behind them.
