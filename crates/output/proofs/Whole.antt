@@ -28,7 +28,7 @@ use Rattle.rules.specs.declared.LineAnswer.{LineAnswer}
 use Rattle.rules.proofs.Bools.{either, below-or, and-left}
 use Rattle.output.specs.Line.{bothFit}
 use Rattle.output.specs.Feeding.{lineRoom, Fed, fedByte, feedByte, feedAll, roomFor, hasRoom, feedCall, finished, finish, finishCall}
-use Rattle.output.proofs.WordLaws.{pieces-cut}
+use Rattle.bytes.proofs.WordLaws.{pieces-cut}
 use Rattle.output.proofs.Kept.{all-keep}
 
 -- ---- pieces do not matter

@@ -5,9 +5,9 @@ use Prim.Native.Nat.{_-_, _^_, _≤_, _<_}
 use borrow.Author.Needs.{needs}
 use lib.ListN.{length, drop}
 use Rattle.rules.specs.Lines.{valueFrom}
-use Rattle.output.proofs.WordLaws.{room-tenfold, room-next, value-grows, value-on, value-done}
-use Rattle.output.proofs.words.value.Statement.{statement}
-use Rattle.output.proofs.words.value.Tie as tie
+use Rattle.bytes.proofs.WordLaws.{room-tenfold, room-next, value-grows, value-on, value-done}
+use Rattle.bytes.proofs.words.value.Statement.{statement}
+use Rattle.bytes.proofs.words.value.Tie as tie
 
 abbrev Inv-loop : tie.InvT-loop
 Inv-loop digits sum₀ i₀ sum i = (i ≤ length digits) × (sum < 256 ^ i) × (valueFrom sum (drop i digits) ≡ valueFrom 0 digits)

@@ -5,10 +5,10 @@ use Prim.Native.Nat.{_+_, _-_, _≤_}
 use borrow.Author.Needs.{needs}
 use lib.ListN.{length, drop}
 use Rattle.rules.specs.Text.{space}
-use Rattle.output.specs.Words.{lengthUntil}
-use Rattle.output.proofs.WordLaws.{ends-here, ends-on, ends-last}
-use Rattle.output.proofs.words.word_end.Statement.{statement}
-use Rattle.output.proofs.words.word_end.Tie as tie
+use Rattle.bytes.specs.Words.{lengthUntil}
+use Rattle.bytes.proofs.WordLaws.{ends-here, ends-on, ends-last}
+use Rattle.bytes.proofs.words.word_end.Statement.{statement}
+use Rattle.bytes.proofs.words.word_end.Tie as tie
 
 abbrev Inv-loop : tie.InvT-loop
 Inv-loop line at end₀ end = (at ≤ end) × (end ≤ length line) × (end + lengthUntil space (drop end line) ≡ at + lengthUntil space (drop at line))

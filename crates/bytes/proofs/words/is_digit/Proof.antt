@@ -1,9 +1,9 @@
 -- `is_digit` meets its contract.
 -- Assumes nothing.
 use borrow.Author.Needs.{needs}
-use Rattle.output.proofs.WordLaws.{below-digits, above-digit0}
-use Rattle.output.proofs.words.is_digit.Statement.{statement}
-use Rattle.output.proofs.words.is_digit.Tie as tie
+use Rattle.bytes.proofs.WordLaws.{below-digits, above-digit0}
+use Rattle.bytes.proofs.words.is_digit.Statement.{statement}
+use Rattle.bytes.proofs.words.is_digit.Tie as tie
 
 pub is-digit-spec : {M : Type 1} → statement M
 is-digit-spec =

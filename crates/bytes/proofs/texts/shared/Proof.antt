@@ -5,9 +5,9 @@ use Prim.Native.Nat.{_+_, _-_}
 use borrow.Author.Needs.{needs}
 use lib.ListN.{length, drop}
 use Rattle.rules.specs.Lines.{agree}
-use Rattle.output.proofs.StatusLaws.{shared-all, shared-short, shared-differ, shared-on}
-use Rattle.output.proofs.status.shared.Statement.{statement}
-use Rattle.output.proofs.status.shared.Tie as tie
+use Rattle.bytes.proofs.SameLaws.{shared-all, shared-short, shared-differ, shared-on}
+use Rattle.bytes.proofs.texts.shared.Statement.{statement}
+use Rattle.bytes.proofs.texts.shared.Tie as tie
 
 abbrev Inv-loop : tie.InvT-loop
 Inv-loop line text i₀ i = i + agree (drop i line) (drop i text) ≡ agree line text

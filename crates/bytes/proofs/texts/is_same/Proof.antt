@@ -1,9 +1,9 @@
 -- `is_same` meets its contract.
 -- Assumes nothing.
 use borrow.Author.Needs.{needs}
-use Rattle.output.proofs.StatusLaws.{same-not, same-by}
-use Rattle.output.proofs.status.is_same.Statement.{statement}
-use Rattle.output.proofs.status.is_same.Tie as tie
+use Rattle.bytes.proofs.SameLaws.{same-not, same-by}
+use Rattle.bytes.proofs.texts.is_same.Statement.{statement}
+use Rattle.bytes.proofs.texts.is_same.Tie as tie
 
 pub is-same-spec : {M : Type 1} → statement M
 is-same-spec =
