@@ -12,10 +12,10 @@ use Rattle.rules.specs.declared.Verdict.the-variants.{Accepted, Refused}
 use Rattle.textlines.specs.Says.{saysAs}
 use Rattle.textlines.specs.declared.Numbers.{Numbers}
 use Rattle.textlines.specs.declared.Said.{Said}
-use Rattle.bodies.specs.Keeping.{nothingKept}
+use Rattle.bodies.specs.Keeping.{Sound, nothingKept}
 use Rattle.bodies.specs.declared.Kept.{Kept}
 use Rattle.translator.specs.Position.{firstPosition, lineDue, movedOn}
-use Rattle.translator.specs.Intake.{Memory, KeptBodies, keptIn, keepLine, oneMore, readOn, stoppedFor, taken, endLine, begun}
+use Rattle.translator.specs.Intake.{Memory, KeptBodies, keptIn, keepLine, oneMore, readOn, stoppedFor, afterLine, headRoom, taken, unlessRefused, endLine, begun}
 use Rattle.translator.specs.declared.position.Position.{Position}
 use Rattle.translator.specs.declared.intake.Intake.{Intake}
 
@@ -31,21 +31,32 @@ pub read-on-is : (due : FormatLine) (said : Numbers) (i : Intake) (kept : Kept) 
     → _≡_ {A = Intake} (record { position = p; lines = lines; verdict = Accepted; kept = kept; held = 0 }) (readOn due said i kept)
 read-on-is due said i kept p lines e f = rw (e, f)
 
+module _ (said : Said) (due : FormatLine) (i r : Intake) (m : Memory) where
+  pub after-refused : (why : Refusal) → said ≡ Said.Refused why → r ≡ stoppedFor why i → (line : List ℕ) → taken r m line ≡ afterLine said due i m line
+  after-refused why w e line = rw (w, e)
+
+  pub after-read : (numbers : Numbers) (after : Memory) → said ≡ Said.Says numbers → r ≡ readOn due numbers i (r .kept)
+      → keptIn (r .kept) after ≡ keepLine due numbers (keptIn (i .kept) m) → (line : List ℕ) → taken r after line ≡ afterLine said due i m line
+  after-read numbers after w e k line =
+      rw w (ap (λ r. taken r after line) e ∙ ap (λ b. taken (readOn due numbers i (b .kept)) (b .memory) line) k)
+
+pub refused-sound : (i r : Intake) (why : Refusal) → r ≡ stoppedFor why i → Sound (i .kept) → Sound (r .kept)
+refused-sound i r why e k = rw e k
+
+pub refused-held : (i r : Intake) (why : Refusal) → r ≡ stoppedFor why i → r .held ≤ headRoom
+refused-held i r why e = rw e (omega arith)
+
+pub read-held : (i r : Intake) (due : FormatLine) (numbers : Numbers) → r ≡ readOn due numbers i (r .kept) → r .held ≤ headRoom
+read-held i r due numbers e = omega (arith, ap (λ i. i .held) e)
+
 module _ (i : Intake) (m : Memory) (line : List ℕ) where
   pub refused-before : (why : Refusal) → i .verdict ≡ Refused why → taken i m line ≡ endLine (taken i m line)
   unfolding endLine
   refused-before why e = rw e
 
-  module _ (e : i .verdict ≡ Accepted) (due : FormatLine) (at : ℕ) (d : due ≡ lineDue (i .position)) (a : at ≡ oneMore (i .lines)) (said : Said) (s : said ≡ saysAs due at (take (i .held) line)) (r : Intake) where
-    pub line-refused : (why : Refusal) → said ≡ Said.Refused why → r ≡ stoppedFor why i → taken r m line ≡ endLine (taken i m line)
-    unfolding endLine
-    line-refused why w q = rw (e, ← d, ← a, ← s, w, q)
-
-    pub line-read : (numbers : Numbers) (after : Memory) → said ≡ Said.Says numbers
-        → r ≡ readOn due numbers i (r .kept)
-        → keptIn (r .kept) after ≡ keepLine due numbers (keptIn (i .kept) m)
-        → taken r after line ≡ endLine (taken i m line)
-    unfolding endLine
-    line-read numbers after w q k =
-        rw (e, ← d, ← a, ← s, w)
-        (ap (λ r. taken r after line) q ∙ ap (λ b. taken (readOn due numbers i (b .kept)) (b .memory) line) k)
+  pub line-ended : (due : FormatLine) (at : ℕ) (said : Said) (r : Intake) (after : Memory) → i .verdict ≡ Accepted → due ≡ lineDue (i .position)
+      → at ≡ oneMore (i .lines) → said ≡ saysAs due at (take (i .held) line) → ((line : List ℕ) → taken r after line ≡ afterLine said due i m line)
+      → taken r after line ≡ endLine (taken i m line)
+  unfolding endLine
+  line-ended due at said r after e d a s f =
+      rw (← d, ← a, ← s) (f line ∙ ap (λ v. unlessRefused v (afterLine said due i m line) (taken i m line)) (sym e))

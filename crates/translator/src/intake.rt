@@ -4,8 +4,6 @@ use crate::position::Position;
 use crate::position::first_position;
 use crate::position::line_due;
 use crate::position::moved_on;
-use crate::stub::nothing_kept;
-use crate::stub::says;
 use bodies::Kept;
 use reader::limits::MAX_GOALS;
 use reader::limits::MAX_PAIRS;
@@ -17,11 +15,12 @@ use rules::Verdict;
 use textlines::Numbers;
 use textlines::Said;
 ghost use mathlib.Core.Path.{_≡_};
-ghost use Prim.Native.Nat.{_≤_, _<_};
+ghost use mathlib.Core.List.{List};
+ghost use Prim.Native.Nat.{ℕ, _≤_, _<_};
 ghost use lib.ListN.{length, drop};
 ghost use Rattle.rules.specs.declared.Verdict.the-variants.{Accepted};
 ghost use Rattle.bodies.specs.Keeping.{Sound};
-ghost use Rattle.translator.specs.Intake.{memory, Lent, keptIn, headRoom, taken, Ready, oneMore, keepLine, readOn, stoppedFor, endLine, withHeld, takeAll, HeldUpTo, actionsFit, countsFit, lentFits, hasRoom, takeCall, begun};
+ghost use Rattle.translator.specs.Intake.{memory, Lent, keptIn, headRoom, taken, Ready, oneMore, keepLine, readOn, stoppedFor, afterLine, endLine, withHeld, takeAll, HeldUpTo, actionsFit, countsFit, lentFits, hasRoom, takeCall, begun};
 
 // How many bytes of a line are held.
 pub const HEAD_ROOM: usize = 32;
@@ -50,7 +49,7 @@ pub fn begin() -> Intake
         position: first_position(),
         lines: 0,
         verdict: Verdict::Accepted,
-        kept: nothing_kept(),
+        kept: bodies::nothing_kept(),
         held: 0,
     }
 }
@@ -107,6 +106,26 @@ fn stopped(state: Intake, why: Refusal) -> Intake
     }
 }
 
+// What the line said decides: it is read, or it ends the reading.
+fn after_line(
+    state: Intake,
+    due: FormatLine,
+    said: Said,
+    sizes: &mut [u8],
+    start: &mut [u8],
+    goal: &mut [u8],
+    actions: &mut [u8],
+) -> Intake
+    requires { ⌜ Sound (state .kept) × Lent (memory (now sizes) (now start) (now goal) (now actions)) ⌝ }
+    ensures after { λ r. ⌜ ((line : List ℕ) → taken r (memory (now (sizes .exit)) (now (start .exit)) (now (goal .exit)) (now (actions .exit))) line ≡ afterLine said due state (memory (now (sizes .entry)) (now (start .entry)) (now (goal .entry)) (now (actions .entry))) line) ⌝ }
+    ensures fits { λ r. ⌜ Sound (r .kept) × (r .held ≤ headRoom) ⌝ }
+{
+    match said {
+        Said::Refused(why) => stopped(state, why),
+        Said::Says(numbers) => read_on(state, due, numbers, sizes, start, goal, actions),
+    }
+}
+
 // The line that is held ends: it is judged as the line that is due.
 pub(crate) fn end_line(
     state: Intake,
@@ -118,7 +137,7 @@ pub(crate) fn end_line(
 ) -> Intake
     requires { ⌜ Ready (taken state (memory (now sizes) (now start) (now goal) (now actions)) (now line)) ⌝ }
     ensures ended { λ r. ⌜ taken r (memory (now (sizes .exit)) (now (start .exit)) (now (goal .exit)) (now (actions .exit))) (now (line .entry)) ≡ endLine (taken state (memory (now (sizes .entry)) (now (start .entry)) (now (goal .entry)) (now (actions .entry))) (now (line .entry))) ⌝ }
-    ensures sound { λ r. ⌜ Sound (r .kept) × (r .held ≤ headRoom) ⌝ }
+    ensures fits { λ r. ⌜ Sound (r .kept) × (r .held ≤ headRoom) ⌝ }
 {
     let verdict = state.verdict;
     let Verdict::Accepted = verdict else {
@@ -126,9 +145,6 @@ pub(crate) fn end_line(
     };
     let held = state.held;
     let due = line_due(state.position);
-    let said = says(due, one_more(state.lines), &line[..held]);
-    match said {
-        Said::Refused(why) => stopped(state, why),
-        Said::Says(numbers) => read_on(state, due, numbers, sizes, start, goal, actions),
-    }
+    let said = textlines::says(due, one_more(state.lines), &line[..held]);
+    after_line(state, due, said, sizes, start, goal, actions)
 }

@@ -1,6 +1,5 @@
 // What a line that was in order adds to the bodies that are kept.
 use bodies::Kept;
-use crate::stub as kb;
 use rules::FormatLine;
 use textlines::Numbers;
 use textlines::OldValue;
@@ -18,7 +17,7 @@ fn keep_old(variable: usize, old: OldValue, kept: Kept, actions: &mut [u8]) -> K
 {
     match old {
         OldValue::Any => kept,
-        OldValue::Is(value) => kb::keep_precondition(kept, actions, variable, value),
+        OldValue::Is(value) => bodies::keep_precondition(kept, actions, variable, value),
     }
 }
 
@@ -30,7 +29,7 @@ fn keep_change(said: Numbers, kept: Kept, actions: &mut [u8]) -> Kept
 {
     let old = said.old;
     let before = keep_old(said.first, old, kept, actions);
-    kb::keep_effect(before, actions, said.first, said.second)
+    bodies::keep_effect(before, actions, said.first, said.second)
 }
 
 // What a line adds.
@@ -48,12 +47,17 @@ pub(crate) fn keep_line(
     ensures { λ r. ⌜ Sound r ⌝ }
 {
     match due {
-        FormatLine::Range => kb::keep_size(kept, sizes, said.first),
-        FormatLine::StateValue => kb::keep_start(kept, start, said.first),
-        FormatLine::GoalFact => kb::keep_goal(kept, goal, said.first, said.second),
-        FormatLine::PrevailCondition => kb::keep_precondition(kept, actions, said.first, said.second),
+        FormatLine::Range => bodies::keep_size(kept, sizes, said.first),
+        FormatLine::StateValue => bodies::keep_start(kept, start, said.first),
+        FormatLine::GoalFact => bodies::keep_goal(kept, goal, said.first, said.second),
+        FormatLine::PrevailCondition => bodies::keep_precondition(
+            kept,
+            actions,
+            said.first,
+            said.second,
+        ),
         FormatLine::Effect => keep_change(said, kept, actions),
-        FormatLine::Cost => kb::keep_action(kept, actions),
+        FormatLine::Cost => bodies::keep_action(kept, actions),
         _ => kept,
     }
 }

@@ -2,4 +2,3 @@
 pub mod intake;
 mod keeping;
 pub mod position;
-mod stub;

@@ -1,7 +1,7 @@
 -- `end_line` meets its contract.
 -- Assumes nothing.
 use borrow.Author.Needs.{needs}
-use Rattle.translator.proofs.LineLaws.{held-length, refused-before, line-refused, line-read}
+use Rattle.translator.proofs.LineLaws.{held-length, refused-before, line-ended}
 use Rattle.translator.proofs.intake.end_line.Statement.{statement}
 use Rattle.translator.proofs.intake.end_line.Tie as tie
 
@@ -14,15 +14,11 @@ end-line-spec =
     (λ c. search (needs, refused-before))
     (λ c κs. search needs)
     (λ c κs. search needs)
-    (λ c. search needs)
+    (λ c. search (needs, held-length))
+    (λ c κs. search needs)
     (λ c κs. search needs)
     (λ c. search needs)
-    (λ c κs. search needs)
-    (λ c. search needs)
-    (λ c κs. search needs)
-    (λ c. search (needs, line-refused))
     (λ c. search needs)
     (λ c. search needs)
     (λ c. search needs)
-    (λ c. search needs)
-    (λ c. search (needs, line-read)))
+    (λ c. search (needs, line-ended)))
