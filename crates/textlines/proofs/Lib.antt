@@ -4,3 +4,4 @@ pub mod PlainLaws
 pub mod PartLaws
 pub mod ShapeLaws
 pub mod OneAnswer
+pub mod Deciding

@@ -23,7 +23,7 @@ use Rattle.textlines.specs.declared.Said.{Said}
 
 -- ---- rules in their order
 
-stops : (holds : Bool) (why : Refusal) (rules : List Rule) (says : Numbers) → holds ≡ false
+pub stops : (holds : Bool) (why : Refusal) (rules : List Rule) (says : Numbers) → holds ≡ false
     → Said.Refused why ≡ saidBy (judge (demand holds why ∷ rules)) says
 stops holds why rules says t = sym (ap (λ v. saidBy v says) (judge-refused (demand holds why) rules t))
 
