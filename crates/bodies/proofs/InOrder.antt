@@ -1,15 +1,14 @@
 -- A pair put in order among pairs that are read from bytes: by its place, its bytes stand between those of the pairs before and behind it.
 -- Assumes nothing.
 use mathlib.Core.Path.{_≡_, refl, sym, ap, _∙_}
-use mathlib.Core.Bool.{Bool, true, false}
+use mathlib.Core.Bool.{true, false}
 use mathlib.Core.Logic.{⊎-elim}
 use mathlib.Core.List.{List, [], _∷_, _++_}
-use Prim.Native.Nat.{ℕ, zero, suc, _+_, _-_, _*_, _≤_, _<_}
+use Prim.Native.Nat.{ℕ, zero, suc, _+_, _*_, _≤_, _<_}
 use native.Mathlib.Omega.{arith}
-use native.Mathlib.Nat.{suc-add}
 use borrow.Author.Tests.{lt-ltb, le-ltb}
 use lib.Dec.{ltb}
-use lib.ListN.{length, take, drop}
+use lib.ListN.{length}
 use lib.Seq.{slice, slice-empty, slice-cons}
 use Rattle.rules.specs.Counting.{forEach}
 use Rattle.rules.specs.Limits.{pairBytes}
@@ -71,11 +70,11 @@ pairs-text s at (suc m) h =
 
 -- ---- in order
 
-put-before : (p q : Pair) (qs : List Pair) → ltb (p .variable) (q .variable) ≡ true → putInOrder p (q ∷ qs) ≡ p ∷ q ∷ qs
+pub put-before : (p q : Pair) (qs : List Pair) → ltb (p .variable) (q .variable) ≡ true → putInOrder p (q ∷ qs) ≡ p ∷ q ∷ qs
 unfolding putInOrder
 put-before p q qs h = rw h
 
-put-behind : (p q : Pair) (qs : List Pair) → ltb (p .variable) (q .variable) ≡ false → putInOrder p (q ∷ qs) ≡ q ∷ putInOrder p qs
+pub put-behind : (p q : Pair) (qs : List Pair) → ltb (p .variable) (q .variable) ≡ false → putInOrder p (q ∷ qs) ≡ q ∷ putInOrder p qs
 unfolding putInOrder
 put-behind p q qs h = rw h
 

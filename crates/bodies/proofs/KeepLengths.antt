@@ -1,14 +1,13 @@
 -- No operation changes how long a body's lent bytes are.
 -- Assumes nothing.
-use mathlib.Core.Path.{_≡_, refl, sym, ap, _∙_}
+use mathlib.Core.Path.{_≡_, refl, ap, _∙_}
 use mathlib.Core.Bool.{Bool, true, false}
 use mathlib.Core.List.{List, [], _∷_}
 use Prim.Native.Nat.{ℕ, _≤_}
-use native.Mathlib.Omega.{arith}
 use borrow.Author.Tests.{ltb-true}
 use lib.Dec.{ltb}
 use lib.ListN.{length, length-set}
-use Rattle.rules.specs.Limits.{maxVariables, maxGoals, maxActions, maxPairs, pairBytes}
+use Rattle.rules.specs.Limits.{maxGoals, maxActions, maxPairs}
 use Rattle.rules.specs.Task.{Pair}
 use Rattle.digits.proofs.Overs.{length-over}
 use Rattle.bodies.specs.Keeping.{Keeping, keeps, Sound, goalRoom, actionsRoom, asByte, bytePair, preconditionsAt, effectsAt, kept, keepSize, keepStart, keepGoal, keepPrecondition, keepEffect, keepAction}

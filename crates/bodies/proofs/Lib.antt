@@ -5,3 +5,10 @@ pub mod KeepSound
 pub mod KeepLengths
 mod Keep
 pub mod OneAnswer
+pub mod Alike
+pub mod Judged
+pub mod Beyond
+pub mod Held
+pub mod HeldBodies
+pub mod States
+pub mod Verdicts

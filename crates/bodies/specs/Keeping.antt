@@ -108,12 +108,13 @@ oneFits Within count limit = ltb count limit
 oneFits Lengths count limit = false
 oneFits Actions count limit = false
 
--- nothing more is kept; the first limit that was gone beyond stays
+-- the first limit that was gone beyond stays
 abbrev pub excessWith : Excess → Excess → Excess
 excessWith Within excess = excess
 excessWith Lengths excess = Lengths
 excessWith Actions excess = Actions
 
+-- nothing more is kept
 abbrev pub noMore : Excess → Kept → Kept
 noMore excess k = beyond (excessWith (k .excess) excess) k
 

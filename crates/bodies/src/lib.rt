@@ -1,5 +1,5 @@
 // The four bodies of a task file, kept in lent memory as the lines of the translator's text come. A number that can be no byte is kept as 255, which
-// is outside every domain.
+// is outside every domain. What is kept has to be sound and the lent memory to have room: the callers see to both.
 mod in_order;
 
 ghost use mathlib.Core.Path.{_≡_};
@@ -42,6 +42,7 @@ pub struct Kept {
     pub excess: Excess,
 }
 
+// No line has been kept yet.
 pub fn nothing_kept() -> Kept
     ensures { λ r. ⌜ r ≡ nothingKept ⌝ }
     ensures { λ r. ⌜ Sound r ⌝ }
@@ -69,7 +70,7 @@ fn one_fits(excess: Excess, count: usize, limit: usize) -> bool
     }
 }
 
-// The first limit that was gone beyond, where this one is.
+// The first limit that was gone beyond stays; where there is none, it is this one.
 fn excess_with(first: Excess, excess: Excess) -> Excess
     ensures { λ r. ⌜ r ≡ excessWith first excess ⌝ }
 {

@@ -2,3 +2,8 @@
 pub mod KeepLaws
 pub mod LineLaws
 pub mod PositionLaws
+pub mod Stack
+pub mod Stages
+pub mod Simulated
+pub mod InPieces
+pub mod WholeText
