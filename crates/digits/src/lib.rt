@@ -1,4 +1,4 @@
-// Numbers as decimal text in lent room.
+// Text in lent room: bytes, and numbers in decimal.
 pub mod words;
 
 ghost use mathlib.Core.Path.{_≡_};
@@ -31,6 +31,21 @@ pub fn put_byte(out: &mut [u8], at: usize, b: u8) -> usize
 {
     out[at] = b;
     at + 1
+}
+
+// Writes a text at a place, and answers the place behind it.
+pub fn put_text(out: &mut [u8], at: usize, text: &[u8]) -> usize
+    requires { ⌜ at + length (now text) ≤ length (now out) ⌝ }
+    ensures written { λ end. ⌜ now (out .exit) ≡ over (now (out .entry)) at (now (text .entry)) ⌝ }
+    ensures behind { λ end. ⌜ end ≡ at + length (now (text .entry)) ⌝ }
+{
+    let mut end = at;
+    let mut i = 0;
+    while i < text.len() {
+        end = put_byte(out, end, text[i]);
+        i += 1;
+    }
+    end
 }
 
 // Writes the digits of m at a place, the last first, and answers the place behind them.

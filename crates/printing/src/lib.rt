@@ -13,21 +13,6 @@ ghost use Rattle.printing.specs.Printed.{ended, refusedWord, numberRoom,
 // The numbers below this have at most 18 digits.
 const PAST_SHORT: usize = 1000000000000000000;
 
-// Writes a text at a place, and answers the place behind it.
-fn put_text(out: &mut [u8], at: usize, text: &[u8]) -> usize
-    requires { ⌜ at + length (now text) ≤ length (now out) ⌝ }
-    ensures written { λ end. ⌜ now (out .exit) ≡ over (now (out .entry)) at (now (text .entry)) ⌝ }
-    ensures behind { λ end. ⌜ end ≡ at + length (now (text .entry)) ⌝ }
-{
-    let mut end = at;
-    let mut i = 0;
-    while i < text.len() {
-        end = digits::put_byte(out, end, text[i]);
-        i += 1;
-    }
-    end
-}
-
 // The byte of the last digit of m.
 fn last_digit(m: usize) -> u8
     ensures { λ r. ⌜ r ≡ digit0 + m % 10 ⌝ }
@@ -88,7 +73,7 @@ fn put_refused(out: &mut [u8]) -> usize
     ensures written { λ end. ⌜ now (out .exit) ≡ over (now (out .entry)) 0 refusedWord ⌝ }
     ensures behind { λ end. ⌜ end ≡ length refusedWord ⌝ }
 {
-    put_text(out, 0, b"refused ")
+    digits::put_text(out, 0, b"refused ")
 }
 
 // Writes the line of a refusal, and answers how many bytes that are.

@@ -1,4 +1,4 @@
--- What is proved of the rules. Demands, Figures and Table are the pages to read; the rest is how.
+-- What is proved of the rules. Demands, Figures, Table and Translated are the pages to read; the rest is how.
 pub mod Bools
 pub mod Counting
 pub mod Judging
@@ -7,6 +7,7 @@ pub mod Valid
 pub mod Contents
 pub mod Actions
 pub mod Files
+pub mod InOrder
 pub mod Loops
 pub mod PairBytes
 pub mod Rests
@@ -37,3 +38,5 @@ pub mod Demands
 pub mod Proved
 pub mod InRows
 pub mod AtCalls
+pub mod Translated
+pub mod TranslatorRuns

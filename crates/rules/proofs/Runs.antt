@@ -36,7 +36,7 @@ pub record Run : Type 0 where
   pub asked : List ℕ
   pub right : List ℕ
 
-abbrev run : List ℕ → List ℕ → Run
+abbrev pub run : List ℕ → List ℕ → Run
 run asked right = record { asked = asked; right = right }
 
 abbrev pub runs : List Run

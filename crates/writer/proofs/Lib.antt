@@ -1,1 +1,3 @@
 -- What is proved of the writer.
+pub mod Laying
+pub mod OneAnswer

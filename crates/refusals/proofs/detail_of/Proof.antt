@@ -1,4 +1,4 @@
--- `detail_of` meets its contract: 22 arms are told apart, and each gives its line of the table.
+-- `detail_of` meets its contract: the arms are told apart, and each gives its line of the table.
 -- Assumes nothing.
 use borrow.Author.Needs.{needs}
 use Rattle.refusals.proofs.Arms.{detail-in}
@@ -12,10 +12,12 @@ detail-of-spec =
     (λ c. search needs) (λ c. search needs) (λ c. search needs) (λ c. search needs) (λ c. search needs) (λ c. search needs)
     (λ c. search needs) (λ c. search needs) (λ c. search needs) (λ c. search needs) (λ c. search needs) (λ c. search needs)
     (λ c. search needs) (λ c. search needs) (λ c. search needs) (λ c. search needs) (λ c. search needs) (λ c. search needs)
-    (λ c. search needs) (λ c. search needs) (λ c. search needs) (λ c. search needs)
+    (λ c. search needs) (λ c. search needs) (λ c. search needs) (λ c. search needs) (λ c. search needs) (λ c. search needs)
+    (λ c. search needs)
     (λ c. search (needs, detail-in)) (λ c. search (needs, detail-in)) (λ c. search (needs, detail-in)) (λ c. search (needs, detail-in))
     (λ c. search (needs, detail-in)) (λ c. search (needs, detail-in)) (λ c. search (needs, detail-in)) (λ c. search (needs, detail-in))
     (λ c. search (needs, detail-in)) (λ c. search (needs, detail-in)) (λ c. search (needs, detail-in)) (λ c. search (needs, detail-in))
     (λ c. search (needs, detail-in)) (λ c. search (needs, detail-in)) (λ c. search (needs, detail-in)) (λ c. search (needs, detail-in))
     (λ c. search (needs, detail-in)) (λ c. search (needs, detail-in)) (λ c. search (needs, detail-in)) (λ c. search (needs, detail-in))
-    (λ c. search (needs, detail-in)) (λ c. search (needs, detail-in)))
+    (λ c. search (needs, detail-in)) (λ c. search (needs, detail-in)) (λ c. search (needs, detail-in)) (λ c. search (needs, detail-in))
+    (λ c. search (needs, detail-in)))

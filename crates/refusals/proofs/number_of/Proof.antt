@@ -1,4 +1,4 @@
--- `number_of` meets its contract: 22 arms are told apart, and each gives its line of the table.
+-- `number_of` meets its contract: the arms are told apart, and each gives its line of the table.
 -- Assumes nothing.
 use borrow.Author.Needs.{needs}
 use Rattle.refusals.proofs.Arms.{number-in}
@@ -12,10 +12,12 @@ number-of-spec =
     (λ c. search needs) (λ c. search needs) (λ c. search needs) (λ c. search needs) (λ c. search needs) (λ c. search needs)
     (λ c. search needs) (λ c. search needs) (λ c. search needs) (λ c. search needs) (λ c. search needs) (λ c. search needs)
     (λ c. search needs) (λ c. search needs) (λ c. search needs) (λ c. search needs) (λ c. search needs) (λ c. search needs)
-    (λ c. search needs) (λ c. search needs) (λ c. search needs) (λ c. search needs)
+    (λ c. search needs) (λ c. search needs) (λ c. search needs) (λ c. search needs) (λ c. search needs) (λ c. search needs)
+    (λ c. search needs)
     (λ c. search (needs, number-in)) (λ c. search (needs, number-in)) (λ c. search (needs, number-in)) (λ c. search (needs, number-in))
     (λ c. search (needs, number-in)) (λ c. search (needs, number-in)) (λ c. search (needs, number-in)) (λ c. search (needs, number-in))
     (λ c. search (needs, number-in)) (λ c. search (needs, number-in)) (λ c. search (needs, number-in)) (λ c. search (needs, number-in))
     (λ c. search (needs, number-in)) (λ c. search (needs, number-in)) (λ c. search (needs, number-in)) (λ c. search (needs, number-in))
     (λ c. search (needs, number-in)) (λ c. search (needs, number-in)) (λ c. search (needs, number-in)) (λ c. search (needs, number-in))
-    (λ c. search (needs, number-in)) (λ c. search (needs, number-in)))
+    (λ c. search (needs, number-in)) (λ c. search (needs, number-in)) (λ c. search (needs, number-in)) (λ c. search (needs, number-in))
+    (λ c. search (needs, number-in)))

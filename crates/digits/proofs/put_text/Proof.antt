@@ -1,11 +1,11 @@
--- `put_text` meets its contract. The loop's invariant: the first i bytes are written.
+-- `digits::put_text` meets its contract. The loop's invariant: the first i bytes are written.
 -- Assumes nothing.
 use Prim.Native.Nat.{_-_}
 use borrow.Author.Needs.{needs}
 use lib.ListN.{length, take}
-use Rattle.printing.proofs.Texts.{Written, written-none, text-more, text-within, text-is, text-behind}
-use Rattle.printing.proofs.put_text.Statement.{statement}
-use Rattle.printing.proofs.put_text.Tie as tie
+use Rattle.digits.proofs.PartBehindPart.{Written, written-none, text-more, text-within, text-is, text-behind}
+use Rattle.digits.proofs.put_text.Statement.{statement}
+use Rattle.digits.proofs.put_text.Tie as tie
 
 abbrev Inv-loop : tie.InvT-loop
 Inv-loop out₀ at text end₀ i₀ out end i = Written out₀ at (take i text) out end
