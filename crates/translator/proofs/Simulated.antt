@@ -30,12 +30,6 @@ use Rattle.translator.proofs.Stack.{linesDue, first-due, saidFirst, mov
 
 -- ---- what is kept
 
-pub unless-accepted : (v : Verdict) (next t : Taken) → v ≡ Accepted → unlessRefused v next t ≡ next
-unless-accepted v next t e = ap (λ x. unlessRefused x next t) e
-
-pub unless-refused : (v : Verdict) (why : Refusal) (next t : Taken) → v ≡ Refused why → unlessRefused v next t ≡ t
-unless-refused v why next t e = ap (λ x. unlessRefused x next t) e
-
 -- what is kept states s, and there is room for more
 pub record Keeps (s : Stated) (k : KeptBodies) : Type 0 where
   pub states : States s (k .kept) (k .memory .sizes) (k .memory .start) (k .memory .goal) (k .memory .actions)
@@ -134,7 +128,7 @@ keeps-old s k h text =
     (either (hasOld text))
 
 -- what a line states is kept
-pub keeps-line : (due : FormatLine) (text : List ℕ) (s : Stated) (k : KeptBodies) → Stands (stageOf due) s → Keeps s k
+keeps-line : (due : FormatLine) (text : List ℕ) (s : Stated) (k : KeptBodies) → Stands (stageOf due) s → Keeps s k
     → Keeps (stated (shapeOf due) text s) (keepLine due (numbersIn (shapeOf due) text) k)
 unfolding stated keepLine numbersIn
 keeps-line BeginVersion text s k b h = h
@@ -193,6 +187,13 @@ pub follows-end : (s : Stated) (p : Position) (k : KeptBodies) → Follows s p k
 follows-end s p k f e = stands-end (lineDue p) s e (f .stands)
 
 -- ---- the two readings
+
+-- the first fault ends a reading
+pub unless-accepted : (v : Verdict) (next t : Taken) → v ≡ Accepted → unlessRefused v next t ≡ next
+unless-accepted v next t e = ap (λ x. unlessRefused x next t) e
+
+pub unless-refused : (v : Verdict) (why : Refusal) (next t : Taken) → v ≡ Refused why → unlessRefused v next t ≡ t
+unless-refused v why next t e = ap (λ x. unlessRefused x next t) e
 
 pub record Simulates (reading : TextReading) (t : Taken) : Type 0 where
   pub verdict : t .intake .verdict ≡ reading .verdict
