@@ -3,17 +3,15 @@
 use mathlib.Core.Path.{_≡_, refl, sym, ap, _∙_}
 use mathlib.Core.Logic.{⊎-elim}
 use mathlib.Core.Bool.{Bool, true, false, cond}
-use mathlib.Core.List.{List, [], _∷_, _++_, foldl, foldl-append, append-nil}
-use Prim.Native.Nat.{ℕ, suc, _+_, _*_, _≤_, _<_}
+use mathlib.Core.List.{List, [], _∷_, _++_, foldl, foldl-append}
+use Prim.Native.Nat.{ℕ, suc, _+_, _≤_, _<_}
 use native.Mathlib.Omega.{arith}
-use borrow.Author.Tests.{eq-eqb, ne-eqb, eqb-true, eqb-false, le-leb, lt-ltb, le-ltb}
+use borrow.Author.Tests.{eq-eqb, ne-eqb, eqb-true, eqb-false, lt-ltb, le-ltb}
 use lib.Dec.{eqb, ltb}
-use lib.ListN.{length, take, set, length-set}
-use Rattle.rules.specs.Counting.{joined}
+use lib.ListN.{length, take, set}
 use Rattle.rules.specs.Answers.{judge}
 use Rattle.rules.specs.Text.{lf}
-use Rattle.rules.specs.Output.{linesOf}
-use Rattle.rules.specs.Format.{Shape, shapeOf, lineRules}
+use Rattle.rules.specs.Format.{Shape, lineRules}
 use Rattle.rules.specs.Translation.{TextReading, textBegun, shapeDue, lineRead, readTextLine, readFurther, readTextLines, readText}
 use Rattle.rules.specs.declared.FormatLine.{FormatLine}
 use Rattle.rules.specs.declared.Refusal.{Refusal}
@@ -23,10 +21,10 @@ use Rattle.rules.proofs.Bools.{either, below-or}
 use Rattle.rules.proofs.Cut.{linesAhead, ahead-first, ahead-none, ahead-last, ahead-lf, ahead-byte, lines-most, Holds, holds-none, holds-more, holds-full}
 use Rattle.textlines.specs.Says.{saysAs}
 use Rattle.textlines.specs.declared.Said.{Said}
-use Rattle.translator.specs.Intake.{Memory, keptIn, mostLines, oneMore, Taken, taken, afterLine, unlessRefused, endLine, headRoom, withHeld, takeByte, takeAll, begun, lastLine}
+use Rattle.translator.specs.Intake.{Memory, mostLines, oneMore, Taken, taken, afterLine, endLine, headRoom, withHeld, takeByte, takeAll, begun, lastLine}
 use Rattle.translator.specs.Position.{lineDue}
 use Rattle.translator.specs.declared.intake.Intake.{Intake}
-use Rattle.translator.proofs.Simulated.{Laws, unless-accepted, unless-refused, Keeps, Simulates, simulates-line}
+use Rattle.translator.proofs.Simulated.{unless-accepted, unless-refused, Simulates, simulates-line}
 
 -- ---- pieces do not matter
 
@@ -131,91 +129,91 @@ all-lines reading (l ∷ ls) = omega (arith, all-lines (step reading l) ls, furt
 
 -- ---- the whole
 
-module _ (L : Laws) where
-  simulates-as : (reading next : TextReading) (t u : Taken) → reading ≡ next → t ≡ u → Simulates L next u → Simulates L reading t
-  simulates-as reading next t u e f h = rw (e, f) h
+simulates-as : (reading next : TextReading) (t u : Taken) → reading ≡ next → t ≡ u → Simulates next u → Simulates reading t
+simulates-as reading next t u e f h = rw (e, f) h
 
-  simulates-held : (reading : TextReading) (t : Taken) (held : ℕ) (line : List ℕ) → Simulates L reading t
-      → Simulates L reading (taken (withHeld held (t .intake)) (t .memory) line)
-  simulates-held reading t held line h = record { verdict = h .verdict; lines = h .lines; due = h .due; follows = h .follows }
+simulates-held : (reading : TextReading) (t : Taken) (held : ℕ) (line : List ℕ) → Simulates reading t
+    → Simulates reading (taken (withHeld held (t .intake)) (t .memory) line)
+simulates-held reading t held line h = record { verdict = h .verdict; lines = h .lines; due = h .due; follows = h .follows }
 
-  -- where the line that has begun is held, both readings of it and of the bytes behind it go together
-  abbrev Read : List ℕ → TextReading → Taken → List ℕ → Type 0
-  Read bytes reading t begun = Simulates L (foldl step reading (linesAhead begun bytes)) (lastLine (takeAll t bytes))
+-- where the line that has begun is held, both readings of it and of the bytes behind it go together
+abbrev Read : List ℕ → TextReading → Taken → List ℕ → Type 0
+Read bytes reading t begun = Simulates (foldl step reading (linesAhead begun bytes)) (lastLine (takeAll t bytes))
 
-  module _ (reading : TextReading) (t : Taken) (s : Simulates L reading t) where
-    read-refused : (bytes begun : List ℕ) (why : Refusal) → reading .verdict ≡ Refused why → Read bytes reading t begun
-    read-refused bytes begun why e =
-        simulates-as (foldl step reading (linesAhead begun bytes)) reading (lastLine (takeAll t bytes)) t
-        (lines-stay reading why (linesAhead begun bytes) e)
-        (ap lastLine (bytes-stay t why bytes (s .verdict ∙ e)) ∙ last-stays t why (s .verdict ∙ e))
-        s
+module _ (reading : TextReading) (t : Taken) (s : Simulates reading t) where
+  read-refused : (bytes begun : List ℕ) (why : Refusal) → reading .verdict ≡ Refused why → Read bytes reading t begun
+  read-refused bytes begun why e =
+      simulates-as (foldl step reading (linesAhead begun bytes)) reading (lastLine (takeAll t bytes)) t
+      (lines-stay reading why (linesAhead begun bytes) e)
+      (ap lastLine (bytes-stay t why bytes (s .verdict ∙ e)) ∙ last-stays t why (s .verdict ∙ e))
+      s
 
-    read-end : (begun : List ℕ) → reading .verdict ≡ Accepted → reading .lines < mostLines → Holds headRoom (t .intake .held) (t .line) begun → Read [] reading t begun
-    unfolding takeAll lastLine
-    read-end [] v l h =
-        simulates-as _ reading _ t (ap (foldl step reading) ahead-none)
-        (chosen-true (eqb (t .intake .held) 0) t (endLine t) (eq-eqb (t .intake .held) 0 (omega (arith, h .much))))
-        s
-    read-end (b ∷ begun) v l h =
-        simulates-as _ (readTextLine reading (b ∷ begun)) _ (endLine t)
-        (ap (foldl step reading) (ahead-last b begun) ∙ step-reads reading (b ∷ begun) v)
-        (chosen-false (eqb (t .intake .held) 0) t (endLine t) (ne-eqb (t .intake .held) 0 (λ e. omega (arith, h .much))))
-        (simulates-line L reading t s (b ∷ begun) v l (h .same))
+  read-end : (begun : List ℕ) → reading .verdict ≡ Accepted → reading .lines < mostLines → Holds headRoom (t .intake .held) (t .line) begun → Read [] reading t begun
+  unfolding takeAll lastLine
+  read-end [] v l h =
+      simulates-as _ reading _ t (ap (foldl step reading) ahead-none)
+      (chosen-true (eqb (t .intake .held) 0) t (endLine t) (eq-eqb (t .intake .held) 0 (omega (arith, h .much))))
+      s
+  read-end (b ∷ begun) v l h =
+      simulates-as _ (readTextLine reading (b ∷ begun)) _ (endLine t)
+      (ap (foldl step reading) (ahead-last b begun) ∙ step-reads reading (b ∷ begun) v)
+      (chosen-false (eqb (t .intake .held) 0) t (endLine t) (ne-eqb (t .intake .held) 0 (λ e. omega (arith, h .much))))
+      (simulates-line reading t s (b ∷ begun) v l (h .same))
 
-    read-lf : (bytes begun : List ℕ) (b : ℕ) → b ≡ lf → reading .verdict ≡ Accepted → Read bytes (readTextLine reading begun) (endLine t) []
-        → Read (b ∷ bytes) reading t begun
-    unfolding takeAll
-    read-lf bytes begun b e v rest =
-        simulates-as _ (foldl step (readTextLine reading begun) (linesAhead [] bytes)) _ (lastLine (takeAll (endLine t) bytes))
-        (ap (foldl step reading) (ahead-lf begun bytes b e) ∙ ap (λ r. foldl step r (linesAhead [] bytes)) (step-reads reading begun v))
-        (ap (λ u. lastLine (takeAll u bytes)) (byte-ends t b (s .verdict ∙ v) e))
-        rest
+  read-lf : (bytes begun : List ℕ) (b : ℕ) → b ≡ lf → reading .verdict ≡ Accepted → Read bytes (readTextLine reading begun) (endLine t) []
+      → Read (b ∷ bytes) reading t begun
+  unfolding takeAll
+  read-lf bytes begun b e v rest =
+      simulates-as _ (foldl step (readTextLine reading begun) (linesAhead [] bytes)) _ (lastLine (takeAll (endLine t) bytes))
+      (ap (foldl step reading) (ahead-lf begun bytes b e) ∙ ap (λ r. foldl step r (linesAhead [] bytes)) (step-reads reading begun v))
+      (ap (λ u. lastLine (takeAll u bytes)) (byte-ends t b (s .verdict ∙ v) e))
+      rest
 
-    read-byte : (bytes begun : List ℕ) (b : ℕ) → (b ≡ lf → ⊥) → (u : Taken) → takeByte t b ≡ u → Read bytes reading u (begun ++ (b ∷ [])) → Read (b ∷ bytes) reading t begun
-    unfolding takeAll
-    read-byte bytes begun b e u f rest =
-        simulates-as _ (foldl step reading (linesAhead (begun ++ (b ∷ [])) bytes)) _ (lastLine (takeAll u bytes))
-        (ap (foldl step reading) (ahead-byte begun bytes b e))
-        (ap (λ u. lastLine (takeAll u bytes)) f)
-        rest
+  read-byte : (bytes begun : List ℕ) (b : ℕ) → (b ≡ lf → ⊥) → (u : Taken) → takeByte t b ≡ u → Read bytes reading u (begun ++ (b ∷ []))
+      → Read (b ∷ bytes) reading t begun
+  unfolding takeAll
+  read-byte bytes begun b e u f rest =
+      simulates-as _ (foldl step reading (linesAhead (begun ++ (b ∷ [])) bytes)) _ (lastLine (takeAll u bytes))
+      (ap (foldl step reading) (ahead-byte begun bytes b e))
+      (ap (λ u. lastLine (takeAll u bytes)) f)
+      rest
 
-  read-all : (bytes : List ℕ) (reading : TextReading) (t : Taken) (begun : List ℕ) → Simulates L reading t → Holds headRoom (t .intake .held) (t .line) begun
-      → reading .lines + length (linesAhead begun bytes) < mostLines → Read bytes reading t begun
-  read-all [] reading t begun s h l =
-      by-verdict (reading .verdict) (Read [] reading t begun) (λ v. read-end reading t s begun v (omega arith) h) (λ why e. read-refused reading t s [] begun why e)
-  read-all (b ∷ bytes) reading t begun s h l =
-      by-verdict (reading .verdict) (Read (b ∷ bytes) reading t begun)
-      (λ v.
-      let held : ℕ = t .intake .held in
-      ⊎-elim
-      (λ c.
-      let e : b ≡ lf = eqb-true b lf c in
-      read-lf reading t s bytes begun b e v
-      (read-all bytes (readTextLine reading begun) (endLine t) [] (simulates-line L reading t s begun v (omega arith) (h .same))
-      (holds-ended t (s .verdict ∙ v) (h .fits))
-      (omega (arith, read-lines reading begun, ap length (ahead-lf begun bytes b e)))))
-      (λ c.
-      let e : b ≡ lf → ⊥ = eqb-false b lf c in
-      let few : reading .lines + length (linesAhead (begun ++ (b ∷ [])) bytes) < mostLines = omega (arith, ap length (ahead-byte begun bytes b e)) in
-      let more : Taken = taken (withHeld (t .intake .held + 1) (t .intake)) (t .memory) (set (t .line) (t .intake .held) b) in
-      ⊎-elim
-      (λ r.
-      read-byte reading t s bytes begun b e more (byte-held t b (s .verdict ∙ v) e r)
-      (read-all bytes reading more (begun ++ (b ∷ [])) (simulates-held reading t (held + 1) (set (t .line) held b) s)
-      (holds-more headRoom held (t .line) begun b h r) few))
-      (λ r.
-      read-byte reading t s bytes begun b e t (byte-passed t b (s .verdict ∙ v) e r)
-      (read-all bytes reading t (begun ++ (b ∷ [])) s (holds-full headRoom held (t .line) begun b h r) few))
-      (below-or held headRoom))
-      (either (eqb b lf)))
-      (λ why e. read-refused reading t s (b ∷ bytes) begun why e)
+read-all : (bytes : List ℕ) (reading : TextReading) (t : Taken) (begun : List ℕ) → Simulates reading t → Holds headRoom (t .intake .held) (t .line) begun
+    → reading .lines + length (linesAhead begun bytes) < mostLines → Read bytes reading t begun
+read-all [] reading t begun s h l =
+    by-verdict (reading .verdict) (Read [] reading t begun) (λ v. read-end reading t s begun v (omega arith) h) (λ why e. read-refused reading t s [] begun why e)
+read-all (b ∷ bytes) reading t begun s h l =
+    by-verdict (reading .verdict) (Read (b ∷ bytes) reading t begun)
+    (λ v.
+    let held : ℕ = t .intake .held in
+    ⊎-elim
+    (λ c.
+    let e : b ≡ lf = eqb-true b lf c in
+    read-lf reading t s bytes begun b e v
+    (read-all bytes (readTextLine reading begun) (endLine t) [] (simulates-line reading t s begun v (omega arith) (h .same))
+    (holds-ended t (s .verdict ∙ v) (h .fits))
+    (omega (arith, read-lines reading begun, ap length (ahead-lf begun bytes b e)))))
+    (λ c.
+    let e : b ≡ lf → ⊥ = eqb-false b lf c in
+    let few : reading .lines + length (linesAhead (begun ++ (b ∷ [])) bytes) < mostLines = omega (arith, ap length (ahead-byte begun bytes b e)) in
+    let more : Taken = taken (withHeld (t .intake .held + 1) (t .intake)) (t .memory) (set (t .line) (t .intake .held) b) in
+    ⊎-elim
+    (λ r.
+    read-byte reading t s bytes begun b e more (byte-held t b (s .verdict ∙ v) e r)
+    (read-all bytes reading more (begun ++ (b ∷ [])) (simulates-held reading t (held + 1) (set (t .line) held b) s)
+    (holds-more headRoom held (t .line) begun b h r) few))
+    (λ r.
+    read-byte reading t s bytes begun b e t (byte-passed t b (s .verdict ∙ v) e r)
+    (read-all bytes reading t (begun ++ (b ∷ [])) s (holds-full headRoom held (t .line) begun b h r) few))
+    (below-or held headRoom))
+    (either (eqb b lf)))
+    (λ why e. read-refused reading t s (b ∷ bytes) begun why e)
 
-  -- a text from its start
-  pub whole : (t : Taken) (text : List ℕ) → Simulates L textBegun t → Holds headRoom (t .intake .held) (t .line) [] → length text < mostLines
-      → Simulates L (readText text) (lastLine (takeAll t text))
-  unfolding readText readTextLines
-  whole t text s h l =
-      simulates-as _ (foldl step textBegun (linesAhead [] text)) _ (lastLine (takeAll t text))
-      (ap (foldl step textBegun) (sym (ahead-first text))) refl
-      (read-all text textBegun t [] s h (omega (arith, lines-most text, ap length (ahead-first text))))
+-- a text from its start
+pub whole : (t : Taken) (text : List ℕ) → Simulates textBegun t → Holds headRoom (t .intake .held) (t .line) [] → length text < mostLines
+    → Simulates (readText text) (lastLine (takeAll t text))
+unfolding readText readTextLines
+whole t text s h l =
+    simulates-as _ (foldl step textBegun (linesAhead [] text)) _ (lastLine (takeAll t text))
+    (ap (foldl step textBegun) (sym (ahead-first text))) refl
+    (read-all text textBegun t [] s h (omega (arith, lines-most text, ap length (ahead-first text))))

@@ -2,458 +2,249 @@
 -- Assumes nothing.
 use mathlib.Core.Path.{_≡_, refl, sym, ap, _∙_}
 use mathlib.Core.Logic.{⊎-elim}
-use mathlib.Core.Bool.{Bool, true, false, cond}
-use mathlib.Core.List.{List, [], _∷_, _++_, tail}
-use Prim.Native.Nat.{ℕ, zero, suc, _+_, _*_, _≤_, _<_}
+use mathlib.Core.Bool.{true, false}
+use mathlib.Core.List.{List, _++_, tail}
+use Prim.Native.Nat.{ℕ, suc, _<_}
 use native.Mathlib.Omega.{arith}
-use native.Mathlib.Numerals.{add-one}
-use borrow.Author.Tests.{ne-eqb}
-use lib.Dec.{eqb}
-use lib.ListN.{length, take, getD}
-use Rattle.rules.specs.Limits.{maxVariables, pairBytes}
-use Rattle.rules.specs.Answers.{judge, inTurn}
-use Rattle.rules.specs.Task.{Pair, taskRules}
-use Rattle.rules.specs.File.{bodiesOf}
-use Rattle.rules.specs.Format.{Stated, nothingStated, noAction, withSize, withStart, withGoal, withPrecondition, withEffect, withAction, shapeOf, lineRules, lineNumber, numberAt, hasOld, oldFact, newFact, factIn, linesAnnounced, stated}
-use Rattle.rules.specs.Translation.{TextReading, textBegun, shapeDue, lineRead, readTextLine, isEnd}
+use lib.ListN.{take, getD}
+use Rattle.rules.specs.Answers.{judge}
+use Rattle.rules.specs.Task.{Pair}
+use Rattle.rules.specs.Format.{Stated, noAction, withSize, withStart, withGoal, withPrecondition, withEffect, withAction, shapeOf, lineRules, lineNumber, hasOld, oldFact, newFact, factIn, linesAnnounced, stated}
+use Rattle.rules.specs.Translation.{TextReading, shapeDue, lineRead, readTextLine, isEnd}
 use Rattle.rules.specs.declared.FormatLine.{FormatLine}
 use Rattle.rules.specs.declared.FormatLine.the-variants.{BeginVersion, Version, EndVersion, BeginMetric, Metric, EndMetric, VariableCount, BeginVariable, VariableName, AxiomLayer, Range, AtomName, EndVariable, MutexGroupCount, BeginMutexGroup, MutexFactCount, MutexFact, EndMutexGroup, BeginState, StateValue, EndState, BeginGoal, GoalCount, GoalFact, EndGoal, OperatorCount, BeginOperator, OperatorName, PrevailCount, PrevailCondition, EffectCount, Effect, Cost, EndOperator, AxiomCount, EndOfText}
 use Rattle.rules.specs.declared.Refusal.{Refusal}
-use Rattle.rules.specs.declared.Refusal.the-variants.{BodyLength, ActionAtFault}
 use Rattle.rules.specs.declared.Verdict.{Verdict}
 use Rattle.rules.specs.declared.Verdict.the-variants.{Accepted, Refused}
-use Rattle.rules.proofs.Bools.{either, clash}
-use Rattle.reader.specs.Bodies.{bodiesRules}
+use Rattle.rules.proofs.Bools.{either}
 use Rattle.textlines.specs.Says.{numbersIn, saidBy, shapeSays, saysAs}
-use Rattle.bodies.specs.Keeping.{keeps, nothingKept, goalRoom, actionsRoom, keepSize, keepStart, keepGoal, keepPrecondition, keepEffect, keepAction, Sound}
-use Rattle.bodies.specs.declared.Kept.{Kept}
-use Rattle.bodies.specs.declared.Excess.the-variants.{Within, Lengths, Actions}
-use Rattle.translator.specs.Position.{firstPosition, dueIn, lineDue, movedOn}
-use Rattle.translator.specs.Intake.{Memory, KeptBodies, keptIn, inSizes, inStart, inGoal, inActions, keepOld, keepLine, mostLines, oneMore, Taken, taken, afterLine, unlessRefused, endLine, headRoom, begun, rulesKept, fileKept}
+use Rattle.textlines.proofs.Deciding.{decided-by-head}
+use Rattle.bodies.specs.Keeping.{keeps, keepSize, keepStart, keepGoal, keepPrecondition, keepEffect, keepAction}
+use Rattle.bodies.proofs.KeepLengths.{length-keepSize, length-keepStart, length-keepGoal, length-keepPrecondition, length-keepEffect, length-keepAction}
+use Rattle.bodies.proofs.States.{States, BeforeOperators, states-size, states-start, states-goal, states-precondition, states-effect, states-action}
+use Rattle.translator.specs.Position.{lineDue, movedOn}
+use Rattle.translator.specs.Intake.{Lent, KeptBodies, keptIn, inSizes, inStart, inGoal, inActions, keepLine, mostLines, oneMore, Taken, afterLine, unlessRefused, endLine, headRoom}
 use Rattle.translator.specs.declared.position.Position.{Position}
-use Rattle.translator.specs.declared.intake.Intake.{Intake}
+use Rattle.translator.proofs.Stages.{stageOf, Stands, stands-next, stands-line, stands-end}
 use Rattle.translator.proofs.Stack.{linesDue, first-due, saidFirst, moved, no-end}
 
--- ---- where in a text an action can be half read
+-- ---- what is kept
 
-pub record BeforeOperators (s : Stated) : Type 0 where
-  pub no-actions : s .task .actions ≡ []
-  pub no-pairs : s .action ≡ noAction
+-- what is kept states s, and there is room for more
+pub record Keeps (s : Stated) (k : KeptBodies) : Type 0 where
+  pub states : States s (k .kept) (k .memory .sizes) (k .memory .start) (k .memory .goal) (k .memory .actions)
+  pub lent : Lent (k .memory)
 
-pub data Stage : Type 0 where
-  before outside inside : Stage
+module _ (s : Stated) (k : KeptBodies) (h : Keeps s k) where
+  keeps-size : (m : ℕ) → BeforeOperators s → Keeps (withSize m s) (inSizes (keepSize m) k)
+  keeps-size m b =
+      record {
+        states = states-size s (k .kept) (k .memory .sizes) (k .memory .start) (k .memory .goal) (k .memory .actions) (h .states) m (h .lent .sizes) b;
+        lent =
+            record {
+              sizes = omega (arith, h .lent .sizes, length-keepSize (k .kept) (k .memory .sizes) m);
+              start = h .lent .start;
+              goal = h .lent .goal;
+              actions = h .lent .actions;
+            };
+      }
 
-abbrev pub stageOf : FormatLine → Stage
-stageOf BeginVersion = before
-stageOf Version = before
-stageOf EndVersion = before
-stageOf BeginMetric = before
-stageOf Metric = before
-stageOf EndMetric = before
-stageOf VariableCount = before
-stageOf BeginVariable = before
-stageOf VariableName = before
-stageOf AxiomLayer = before
-stageOf Range = before
-stageOf AtomName = before
-stageOf EndVariable = before
-stageOf MutexGroupCount = before
-stageOf BeginMutexGroup = before
-stageOf MutexFactCount = before
-stageOf MutexFact = before
-stageOf EndMutexGroup = before
-stageOf BeginState = before
-stageOf StateValue = before
-stageOf EndState = before
-stageOf BeginGoal = before
-stageOf GoalCount = before
-stageOf GoalFact = before
-stageOf EndGoal = before
-stageOf OperatorCount = before
-stageOf BeginOperator = outside
-stageOf OperatorName = outside
-stageOf PrevailCount = outside
-stageOf PrevailCondition = inside
-stageOf EffectCount = inside
-stageOf Effect = inside
-stageOf Cost = inside
-stageOf EndOperator = outside
-stageOf AxiomCount = outside
-stageOf EndOfText = outside
+  keeps-start : (m : ℕ) → BeforeOperators s → Keeps (withStart m s) (inStart (keepStart m) k)
+  keeps-start m b =
+      record {
+        states = states-start s (k .kept) (k .memory .sizes) (k .memory .start) (k .memory .goal) (k .memory .actions) (h .states) m (h .lent .start) b;
+        lent =
+            record {
+              sizes = h .lent .sizes;
+              start = omega (arith, h .lent .start, length-keepStart (k .kept) (k .memory .start) m);
+              goal = h .lent .goal;
+              actions = h .lent .actions;
+            };
+      }
 
--- before the operators there is no action; outside an operator's pairs none is half read
-abbrev pub Stands : Stage → Stated → Type 0
-Stands before s = BeforeOperators s
-Stands outside s = s .action ≡ noAction
-Stands inside s = record {}
+  keeps-goal : (p : Pair) → BeforeOperators s → Keeps (withGoal p s) (inGoal (keepGoal p) k)
+  keeps-goal p b =
+      record {
+        states = states-goal s (k .kept) (k .memory .sizes) (k .memory .start) (k .memory .goal) (k .memory .actions) (h .states) p b;
+        lent =
+            record {
+              sizes = h .lent .sizes;
+              start = h .lent .start;
+              goal = omega (arith, h .lent .goal, length-keepGoal (k .kept) (k .memory .goal) p (h .lent .goal));
+              actions = h .lent .actions;
+            };
+      }
 
-either-stage : (over : Bool) (again behind : FormatLine) → stageOf behind ≡ stageOf again → stageOf (cond over behind again) ≡ stageOf again
-either-stage true again behind e = e
-either-stage false again behind e = refl
+  keeps-precondition : (p : Pair) → Keeps (withPrecondition p s) (inActions (keepPrecondition p) k)
+  keeps-precondition p =
+      record {
+        states = states-precondition s (k .kept) (k .memory .sizes) (k .memory .start) (k .memory .goal) (k .memory .actions) (h .states) p (h .lent .actions);
+        lent =
+            record {
+              sizes = h .lent .sizes;
+              start = h .lent .start;
+              goal = h .lent .goal;
+              actions = omega (arith, h .lent .actions, length-keepPrecondition (k .kept) (k .memory .actions) (h .states .sound) (h .lent .actions) p);
+            };
+      }
 
--- repetitions and the line behind them are of one stage
-stage-due : (line : FormatLine) (i o : ℕ) → stageOf (dueIn line i o) ≡ stageOf line
-stage-due BeginVersion i o = refl
-stage-due Version i o = refl
-stage-due EndVersion i o = refl
-stage-due BeginMetric i o = refl
-stage-due Metric i o = refl
-stage-due EndMetric i o = refl
-stage-due VariableCount i o = refl
-stage-due BeginVariable i o = either-stage (eqb o 0) BeginVariable MutexGroupCount refl
-stage-due VariableName i o = refl
-stage-due AxiomLayer i o = refl
-stage-due Range i o = refl
-stage-due AtomName i o = either-stage (eqb i 0) AtomName EndVariable refl
-stage-due EndVariable i o = refl
-stage-due MutexGroupCount i o = refl
-stage-due BeginMutexGroup i o = either-stage (eqb o 0) BeginMutexGroup BeginState refl
-stage-due MutexFactCount i o = refl
-stage-due MutexFact i o = either-stage (eqb i 0) MutexFact EndMutexGroup refl
-stage-due EndMutexGroup i o = refl
-stage-due BeginState i o = refl
-stage-due StateValue i o = either-stage (eqb i 0) StateValue EndState refl
-stage-due EndState i o = refl
-stage-due BeginGoal i o = refl
-stage-due GoalCount i o = refl
-stage-due GoalFact i o = either-stage (eqb i 0) GoalFact EndGoal refl
-stage-due EndGoal i o = refl
-stage-due OperatorCount i o = refl
-stage-due BeginOperator i o = either-stage (eqb o 0) BeginOperator AxiomCount refl
-stage-due OperatorName i o = refl
-stage-due PrevailCount i o = refl
-stage-due PrevailCondition i o = either-stage (eqb i 0) PrevailCondition EffectCount refl
-stage-due EffectCount i o = refl
-stage-due Effect i o = either-stage (eqb i 0) Effect Cost refl
-stage-due Cost i o = refl
-stage-due EndOperator i o = refl
-stage-due AxiomCount i o = refl
-stage-due EndOfText i o = refl
+  keeps-effect : (p : Pair) → Keeps (withEffect p s) (inActions (keepEffect p) k)
+  keeps-effect p =
+      record {
+        states = states-effect s (k .kept) (k .memory .sizes) (k .memory .start) (k .memory .goal) (k .memory .actions) (h .states) p (h .lent .actions);
+        lent =
+            record {
+              sizes = h .lent .sizes;
+              start = h .lent .start;
+              goal = h .lent .goal;
+              actions = omega (arith, h .lent .actions, length-keepEffect (k .kept) (k .memory .actions) (h .states .sound) (h .lent .actions) p);
+            };
+      }
 
-module _ (p : Position) (m : ℕ) (text : List ℕ) (s : Stated) where
-  stands-line : (due : FormatLine) → isEnd (shapeOf due) ≡ false → Stands (stageOf due) s
-      → Stands (stageOf (movedOn due m p .line)) (stated (shapeOf due) text s)
-  unfolding movedOn stated withSize withStart withGoal withAction
-  stands-line BeginVersion e h = h
-  stands-line Version e h = h
-  stands-line EndVersion e h = h
-  stands-line BeginMetric e h = h
-  stands-line Metric e h = h
-  stands-line EndMetric e h = h
-  stands-line VariableCount e h = h
-  stands-line BeginVariable e h = h
-  stands-line VariableName e h = h
-  stands-line AxiomLayer e h = h
-  stands-line Range e h = record { no-actions = h .no-actions; no-pairs = h .no-pairs }
-  stands-line AtomName e h = h
-  stands-line EndVariable e h = h
-  stands-line MutexGroupCount e h = h
-  stands-line BeginMutexGroup e h = h
-  stands-line MutexFactCount e h = h
-  stands-line MutexFact e h = h
-  stands-line EndMutexGroup e h = h
-  stands-line BeginState e h = h
-  stands-line StateValue e h = record { no-actions = h .no-actions; no-pairs = h .no-pairs }
-  stands-line EndState e h = h
-  stands-line BeginGoal e h = h
-  stands-line GoalCount e h = h
-  stands-line GoalFact e h = record { no-actions = h .no-actions; no-pairs = h .no-pairs }
-  stands-line EndGoal e h = h
-  stands-line OperatorCount e h = h .no-pairs
-  stands-line BeginOperator e h = h
-  stands-line OperatorName e h = h
-  stands-line PrevailCount e h = record {}
-  stands-line PrevailCondition e h = record {}
-  stands-line EffectCount e h = record {}
-  stands-line Effect e h = record {}
-  stands-line Cost e h = refl
-  stands-line EndOperator e h = h
-  stands-line AxiomCount e h = h
-  stands-line EndOfText e h = clash refl e
+  keeps-action : Keeps (withAction s) (inActions keepAction k)
+  keeps-action =
+      record {
+        states = states-action s (k .kept) (k .memory .sizes) (k .memory .start) (k .memory .goal) (k .memory .actions) (h .states) (h .lent .actions);
+        lent =
+            record {
+              sizes = h .lent .sizes;
+              start = h .lent .start;
+              goal = h .lent .goal;
+              actions = omega (arith, h .lent .actions, length-keepAction (k .kept) (k .memory .actions) (h .states .sound) (h .lent .actions));
+            };
+      }
 
-stands-end : (due : FormatLine) (s : Stated) → isEnd (shapeOf due) ≡ true → Stands (stageOf due) s → s .action ≡ noAction
-stands-end BeginVersion s e h = h .no-pairs
-stands-end Version s e h = h .no-pairs
-stands-end EndVersion s e h = h .no-pairs
-stands-end BeginMetric s e h = h .no-pairs
-stands-end Metric s e h = h .no-pairs
-stands-end EndMetric s e h = h .no-pairs
-stands-end VariableCount s e h = h .no-pairs
-stands-end BeginVariable s e h = h .no-pairs
-stands-end VariableName s e h = h .no-pairs
-stands-end AxiomLayer s e h = h .no-pairs
-stands-end Range s e h = h .no-pairs
-stands-end AtomName s e h = h .no-pairs
-stands-end EndVariable s e h = h .no-pairs
-stands-end MutexGroupCount s e h = h .no-pairs
-stands-end BeginMutexGroup s e h = h .no-pairs
-stands-end MutexFactCount s e h = h .no-pairs
-stands-end MutexFact s e h = h .no-pairs
-stands-end EndMutexGroup s e h = h .no-pairs
-stands-end BeginState s e h = h .no-pairs
-stands-end StateValue s e h = h .no-pairs
-stands-end EndState s e h = h .no-pairs
-stands-end BeginGoal s e h = h .no-pairs
-stands-end GoalCount s e h = h .no-pairs
-stands-end GoalFact s e h = h .no-pairs
-stands-end EndGoal s e h = h .no-pairs
-stands-end OperatorCount s e h = h .no-pairs
-stands-end BeginOperator s e h = h
-stands-end OperatorName s e h = h
-stands-end PrevailCount s e h = h
-stands-end PrevailCondition s e h = clash e refl
-stands-end EffectCount s e h = clash e refl
-stands-end Effect s e h = clash e refl
-stands-end Cost s e h = clash e refl
-stands-end EndOperator s e h = h
-stands-end AxiomCount s e h = h
-stands-end EndOfText s e h = h
+-- an effect's old value is a precondition where there is one
+keeps-old : (s : Stated) (k : KeptBodies) → Keeps s k → (text : List ℕ)
+    → Keeps (stated (shapeOf Effect) text s) (keepLine Effect (numbersIn (shapeOf Effect) text) k)
+unfolding stated keepLine numbersIn
+keeps-old s k h text =
+    ⊎-elim
+    (λ t.
+    rw t
+    (keeps-effect (withPrecondition (oldFact text) s) (inActions (keepPrecondition (oldFact text)) k) (keeps-precondition s k h (oldFact text))
+    (newFact text)))
+    (λ t. rw t (keeps-effect s k h (newFact text)))
+    (either (hasOld text))
 
--- ---- what is known of the bodies kept
+-- what a line states is kept
+keeps-line : (due : FormatLine) (text : List ℕ) (s : Stated) (k : KeptBodies) → Stands (stageOf due) s → Keeps s k
+    → Keeps (stated (shapeOf due) text s) (keepLine due (numbersIn (shapeOf due) text) k)
+unfolding stated keepLine numbersIn
+keeps-line BeginVersion text s k b h = h
+keeps-line Version text s k b h = h
+keeps-line EndVersion text s k b h = h
+keeps-line BeginMetric text s k b h = h
+keeps-line Metric text s k b h = h
+keeps-line EndMetric text s k b h = h
+keeps-line VariableCount text s k b h = h
+keeps-line BeginVariable text s k b h = h
+keeps-line VariableName text s k b h = h
+keeps-line AxiomLayer text s k b h = h
+keeps-line Range text s k b h = keeps-size s k h (lineNumber text) b
+keeps-line AtomName text s k b h = h
+keeps-line EndVariable text s k b h = h
+keeps-line MutexGroupCount text s k b h = h
+keeps-line BeginMutexGroup text s k b h = h
+keeps-line MutexFactCount text s k b h = h
+keeps-line MutexFact text s k b h = h
+keeps-line EndMutexGroup text s k b h = h
+keeps-line BeginState text s k b h = h
+keeps-line StateValue text s k b h = keeps-start s k h (lineNumber text) b
+keeps-line EndState text s k b h = h
+keeps-line BeginGoal text s k b h = h
+keeps-line GoalCount text s k b h = h
+keeps-line GoalFact text s k b h = keeps-goal s k h (factIn text) b
+keeps-line EndGoal text s k b h = h
+keeps-line OperatorCount text s k b h = h
+keeps-line BeginOperator text s k b h = h
+keeps-line OperatorName text s k b h = h
+keeps-line PrevailCount text s k b h = h
+keeps-line PrevailCondition text s k b h = keeps-precondition s k h (factIn text)
+keeps-line EffectCount text s k b h = h
+keeps-line Effect text s k b h = keeps-old s k h text
+keeps-line Cost text s k b h = keeps-action s k h
+keeps-line EndOperator text s k b h = h
+keeps-line AxiomCount text s k b h = h
+keeps-line EndOfText text s k b h = h
 
-pub record Laws : Type 1 where
-  pub States : Stated → Kept → (sizes start goal actions : List ℕ) → Type 0
-  pub sound : (s : Stated) (k : Kept) (S st g a : List ℕ) → States s k S st g a → Sound k
-  pub nothing : (S st g a : List ℕ) → States nothingStated nothingKept S st g a
-  pub size : (m : ℕ) (s : Stated) (k : Kept) (S st g a : List ℕ) → States s k S st g a → BeforeOperators s → maxVariables ≤ length S
-      → States (withSize m s) (keepSize m (keeps k S) .kept) (keepSize m (keeps k S) .body) st g a
-  pub start : (m : ℕ) (s : Stated) (k : Kept) (S st g a : List ℕ) → States s k S st g a → BeforeOperators s → maxVariables ≤ length st
-      → States (withStart m s) (keepStart m (keeps k st) .kept) S (keepStart m (keeps k st) .body) g a
-  pub goal : (p : Pair) (s : Stated) (k : Kept) (S st g a : List ℕ) → States s k S st g a → BeforeOperators s → goalRoom ≤ length g
-      → States (withGoal p s) (keepGoal p (keeps k g) .kept) S st (keepGoal p (keeps k g) .body) a
-  pub precondition : (p : Pair) (s : Stated) (k : Kept) (S st g a : List ℕ) → States s k S st g a → actionsRoom ≤ length a
-      → States (withPrecondition p s) (keepPrecondition p (keeps k a) .kept) S st g (keepPrecondition p (keeps k a) .body)
-  pub effect : (p : Pair) (s : Stated) (k : Kept) (S st g a : List ℕ) → States s k S st g a → actionsRoom ≤ length a
-      → States (withEffect p s) (keepEffect p (keeps k a) .kept) S st g (keepEffect p (keeps k a) .body)
-  pub action : (s : Stated) (k : Kept) (S st g a : List ℕ) → States s k S st g a → actionsRoom ≤ length a
-      → States (withAction s) (keepAction (keeps k a) .kept) S st g (keepAction (keeps k a) .body)
-  pub size-length : (m : ℕ) (k : Kept) (S : List ℕ) → length (keepSize m (keeps k S) .body) ≡ length S
-  pub start-length : (m : ℕ) (k : Kept) (S : List ℕ) → length (keepStart m (keeps k S) .body) ≡ length S
-  pub goal-length : (p : Pair) (k : Kept) (g : List ℕ) → Sound k → goalRoom ≤ length g → length (keepGoal p (keeps k g) .body) ≡ length g
-  pub precondition-length : (p : Pair) (k : Kept) (a : List ℕ) → Sound k → actionsRoom ≤ length a
-      → length (keepPrecondition p (keeps k a) .body) ≡ length a
-  pub effect-length : (p : Pair) (k : Kept) (a : List ℕ) → Sound k → actionsRoom ≤ length a → length (keepEffect p (keeps k a) .body) ≡ length a
-  pub action-length : (k : Kept) (a : List ℕ) → Sound k → actionsRoom ≤ length a → length (keepAction (keeps k a) .body) ≡ length a
-  pub judged-within : (s : Stated) (k : Kept) (S st g a : List ℕ) → States s k S st g a → k .excess ≡ Within
-      → judge (bodiesRules (take (k .sizes) S) (take (k .starts) st) (take (pairBytes * k .goals) g) (take (k .bytes) a))
-      ≡ judge (taskRules true (λ a. true) (s .task))
-  pub bodies-within : (s : Stated) (k : Kept) (S st g a : List ℕ) → States s k S st g a → k .excess ≡ Within
-      → judge (taskRules true (λ a. true) (s .task)) ≡ Accepted
-      → _≡_ {A = List (List ℕ)} (take (k .sizes) S ∷ take (k .starts) st ∷ take (pairBytes * k .goals) g ∷ take (k .bytes) a ∷ []) (bodiesOf (s .task))
-  pub judged-lengths : (s : Stated) (k : Kept) (S st g a : List ℕ) → States s k S st g a → k .excess ≡ Lengths
-      → judge (taskRules true (λ a. true) (s .task)) ≡ Refused BodyLength
-  pub judged-actions : (s : Stated) (k : Kept) (S st g a : List ℕ) → States s k S st g a → k .excess ≡ Actions → s .action ≡ noAction
-      → judge (taskRules true (λ a. true) (s .task))
-      ≡ inTurn (judge (bodiesRules (take (k .sizes) S) (take (k .starts) st) (take (pairBytes * k .goals) g) (take (k .bytes) a)))
-      (Refused (ActionAtFault (k .actions)))
-  pub decided : (due : FormatLine) (at : ℕ) (line : List ℕ) → saysAs due at line ≡ saysAs due at (take headRoom line)
+-- a position, what has been stated up to it, and what is kept
+pub record Follows (s : Stated) (p : Position) (k : KeptBodies) : Type 0 where
+  pub stands : Stands (stageOf (lineDue p)) s
+  pub keeps : Keeps s k
 
+pub follows-line : (s : Stated) (p : Position) (k : KeptBodies) (text : List ℕ) → isEnd (shapeOf (lineDue p)) ≡ false → Follows s p k
+    → Follows (stated (shapeOf (lineDue p)) text s) (movedOn (lineDue p) (saidFirst (lineDue p) text) p)
+    (keepLine (lineDue p) (numbersIn (shapeOf (lineDue p)) text) k)
+follows-line s p k text e f =
+    let due : FormatLine = lineDue p in
+    record {
+      stands = stands-next (stated (shapeOf due) text s) (movedOn due (saidFirst due text) p) (stands-line p (saidFirst due text) text s due e (f .stands));
+      keeps = keeps-line due text s k (f .stands) (f .keeps);
+    }
+
+pub follows-end : (s : Stated) (p : Position) (k : KeptBodies) → Follows s p k → isEnd (shapeOf (lineDue p)) ≡ true → s .action ≡ noAction
+follows-end s p k f e = stands-end (lineDue p) s e (f .stands)
+
+-- ---- the two readings
+
+-- the first fault ends a reading
 pub unless-accepted : (v : Verdict) (next t : Taken) → v ≡ Accepted → unlessRefused v next t ≡ next
 unless-accepted v next t e = ap (λ x. unlessRefused x next t) e
 
 pub unless-refused : (v : Verdict) (why : Refusal) (next t : Taken) → v ≡ Refused why → unlessRefused v next t ≡ t
 unless-refused v why next t e = ap (λ x. unlessRefused x next t) e
 
-module _ (L : Laws) where
-  pub record Keeps (s : Stated) (k : KeptBodies) : Type 0 where
-    pub states : L .States s (k .kept) (k .memory .sizes) (k .memory .start) (k .memory .goal) (k .memory .actions)
-    pub sizes : maxVariables ≤ length (k .memory .sizes)
-    pub start : maxVariables ≤ length (k .memory .start)
-    pub goal : goalRoom ≤ length (k .memory .goal)
-    pub actions : actionsRoom ≤ length (k .memory .actions)
+pub record Simulates (reading : TextReading) (t : Taken) : Type 0 where
+  pub verdict : t .intake .verdict ≡ reading .verdict
+  pub lines : t .intake .lines ≡ reading .lines
+  pub due : reading .due ≡ linesDue (t .intake .position)
+  pub follows : Follows (reading .stated) (t .intake .position) (keptIn (t .intake .kept) (t .memory))
 
-  module _ (s : Stated) (k : KeptBodies) (h : Keeps s k) where
-    keeps-size : (m : ℕ) → BeforeOperators s → Keeps (withSize m s) (inSizes (keepSize m) k)
-    keeps-size m b =
-        record {
-          states = L .size m s (k .kept) (k .memory .sizes) (k .memory .start) (k .memory .goal) (k .memory .actions) (h .states) b (h .sizes);
-          sizes = omega (arith, h .sizes, L .size-length m (k .kept) (k .memory .sizes));
-          start = h .start;
-          goal = h .goal;
-          actions = h .actions;
-        }
+module _ (reading : TextReading) (t : Taken) (h : Simulates reading t) where
+  pub due-next : getD (reading .due) 0 EndOfText ≡ lineDue (t .intake .position)
+  due-next = ap (λ l. getD l 0 EndOfText) (h .due) ∙ first-due (t .intake .position)
 
-    keeps-start : (m : ℕ) → BeforeOperators s → Keeps (withStart m s) (inStart (keepStart m) k)
-    keeps-start m b =
-        record {
-          states = L .start m s (k .kept) (k .memory .sizes) (k .memory .start) (k .memory .goal) (k .memory .actions) (h .states) b (h .start);
-          sizes = h .sizes;
-          start = omega (arith, h .start, L .start-length m (k .kept) (k .memory .start));
-          goal = h .goal;
-          actions = h .actions;
-        }
+  pub next-line : reading .lines < mostLines → oneMore (t .intake .lines) ≡ suc (reading .lines)
+  next-line l = omega (arith, h .lines)
 
-    pub sound : Sound (k .kept)
-    sound = L .sound s (k .kept) (k .memory .sizes) (k .memory .start) (k .memory .goal) (k .memory .actions) (h .states)
-
-    keeps-goal : (p : Pair) → BeforeOperators s → Keeps (withGoal p s) (inGoal (keepGoal p) k)
-    keeps-goal p b =
-        record {
-          states = L .goal p s (k .kept) (k .memory .sizes) (k .memory .start) (k .memory .goal) (k .memory .actions) (h .states) b (h .goal);
-          sizes = h .sizes;
-          start = h .start;
-          goal = omega (arith, h .goal, L .goal-length p (k .kept) (k .memory .goal) sound (h .goal));
-          actions = h .actions;
-        }
-
-    keeps-precondition : (p : Pair) → Keeps (withPrecondition p s) (inActions (keepPrecondition p) k)
-    keeps-precondition p =
-        record {
-          states = L .precondition p s (k .kept) (k .memory .sizes) (k .memory .start) (k .memory .goal) (k .memory .actions) (h .states) (h .actions);
-          sizes = h .sizes;
-          start = h .start;
-          goal = h .goal;
-          actions = omega (arith, h .actions, L .precondition-length p (k .kept) (k .memory .actions) sound (h .actions));
-        }
-
-    keeps-effect : (p : Pair) → Keeps (withEffect p s) (inActions (keepEffect p) k)
-    keeps-effect p =
-        record {
-          states = L .effect p s (k .kept) (k .memory .sizes) (k .memory .start) (k .memory .goal) (k .memory .actions) (h .states) (h .actions);
-          sizes = h .sizes;
-          start = h .start;
-          goal = h .goal;
-          actions = omega (arith, h .actions, L .effect-length p (k .kept) (k .memory .actions) sound (h .actions));
-        }
-
-    keeps-action : Keeps (withAction s) (inActions keepAction k)
-    keeps-action =
-        record {
-          states = L .action s (k .kept) (k .memory .sizes) (k .memory .start) (k .memory .goal) (k .memory .actions) (h .states) (h .actions);
-          sizes = h .sizes;
-          start = h .start;
-          goal = h .goal;
-          actions = omega (arith, h .actions, L .action-length (k .kept) (k .memory .actions) sound (h .actions));
-        }
-
-  -- an effect's old value is a precondition where there is one
-  keeps-old : (s : Stated) (k : KeptBodies) → Keeps s k → (text : List ℕ)
-      → Keeps (stated (shapeOf Effect) text s) (keepLine Effect (numbersIn (shapeOf Effect) text) k)
-  unfolding stated keepLine numbersIn
-  keeps-old s k h text =
-      ⊎-elim
-      (λ t.
-      rw t
-      (keeps-effect (withPrecondition (oldFact text) s) (inActions (keepPrecondition (oldFact text)) k) (keeps-precondition s k h (oldFact text))
-      (newFact text)))
-      (λ t. rw t (keeps-effect s k h (newFact text)))
-      (either (hasOld text))
-
-  -- what a line states is kept
-  pub keeps-line : (due : FormatLine) (text : List ℕ) (s : Stated) (k : KeptBodies) → Stands (stageOf due) s → Keeps s k
-      → Keeps (stated (shapeOf due) text s) (keepLine due (numbersIn (shapeOf due) text) k)
-  unfolding stated keepLine numbersIn
-  keeps-line BeginVersion text s k b h = h
-  keeps-line Version text s k b h = h
-  keeps-line EndVersion text s k b h = h
-  keeps-line BeginMetric text s k b h = h
-  keeps-line Metric text s k b h = h
-  keeps-line EndMetric text s k b h = h
-  keeps-line VariableCount text s k b h = h
-  keeps-line BeginVariable text s k b h = h
-  keeps-line VariableName text s k b h = h
-  keeps-line AxiomLayer text s k b h = h
-  keeps-line Range text s k b h = keeps-size s k h (lineNumber text) b
-  keeps-line AtomName text s k b h = h
-  keeps-line EndVariable text s k b h = h
-  keeps-line MutexGroupCount text s k b h = h
-  keeps-line BeginMutexGroup text s k b h = h
-  keeps-line MutexFactCount text s k b h = h
-  keeps-line MutexFact text s k b h = h
-  keeps-line EndMutexGroup text s k b h = h
-  keeps-line BeginState text s k b h = h
-  keeps-line StateValue text s k b h = keeps-start s k h (lineNumber text) b
-  keeps-line EndState text s k b h = h
-  keeps-line BeginGoal text s k b h = h
-  keeps-line GoalCount text s k b h = h
-  keeps-line GoalFact text s k b h = keeps-goal s k h (factIn text) b
-  keeps-line EndGoal text s k b h = h
-  keeps-line OperatorCount text s k b h = h
-  keeps-line BeginOperator text s k b h = h
-  keeps-line OperatorName text s k b h = h
-  keeps-line PrevailCount text s k b h = h
-  keeps-line PrevailCondition text s k b h = keeps-precondition s k h (factIn text)
-  keeps-line EffectCount text s k b h = h
-  keeps-line Effect text s k b h = keeps-old s k h text
-  keeps-line Cost text s k b h = keeps-action s k h
-  keeps-line EndOperator text s k b h = h
-  keeps-line AxiomCount text s k b h = h
-  keeps-line EndOfText text s k b h = h
-
-  -- a position, what has been stated up to it, and what is kept
-  pub record Follows (s : Stated) (p : Position) (k : KeptBodies) : Type 0 where
-    pub stands : Stands (stageOf (lineDue p)) s
-    pub keeps : Keeps s k
-
-  stands-next : (s : Stated) (p : Position) → Stands (stageOf (p .line)) s → Stands (stageOf (lineDue p)) s
-  unfolding lineDue
-  stands-next s p h = rw (stage-due (p .line) (p .inner) (p .outer)) h
-
-  pub follows-line : (s : Stated) (p : Position) (k : KeptBodies) (text : List ℕ) → isEnd (shapeOf (lineDue p)) ≡ false → Follows s p k
-      → Follows (stated (shapeOf (lineDue p)) text s) (movedOn (lineDue p) (saidFirst (lineDue p) text) p)
-      (keepLine (lineDue p) (numbersIn (shapeOf (lineDue p)) text) k)
-  follows-line s p k text e f =
-      let due : FormatLine = lineDue p in
+  simulates-said : (text : List ℕ) (v : Verdict) → reading .lines < mostLines
+      → judge (lineRules (shapeOf (lineDue (t .intake .position))) (suc (reading .lines)) text) ≡ v
+      → Simulates (lineRead v (shapeOf (lineDue (t .intake .position))) reading text)
+      (afterLine (saidBy v (numbersIn (shapeOf (lineDue (t .intake .position))) text)) (lineDue (t .intake .position)) (t .intake) (t .memory) (t .line))
+  simulates-said text Accepted l e =
+      let p : Position = t .intake .position in
+      let on : isEnd (shapeOf (lineDue p)) ≡ false = no-end (shapeOf (lineDue p)) (suc (reading .lines)) text e in
       record {
-        stands = stands-next (stated (shapeOf due) text s) (movedOn due (saidFirst due text) p) (stands-line p (saidFirst due text) text s due e (f .stands));
-        keeps = keeps-line due text s k (f .stands) (f .keeps);
+        verdict = refl;
+        lines = next-line l;
+        due = ap (λ ls. linesAnnounced (shapeOf (lineDue p)) text ++ tail ls) (h .due) ∙ sym (moved p text on);
+        follows = follows-line (reading .stated) p (keptIn (t .intake .kept) (t .memory)) text on (h .follows);
       }
+  simulates-said text (Refused why) l e = record { verdict = refl; lines = h .lines; due = h .due; follows = h .follows }
 
-  pub follows-end : (s : Stated) (p : Position) (k : KeptBodies) → Follows s p k → isEnd (shapeOf (lineDue p)) ≡ true → s .action ≡ noAction
-  follows-end s p k f e = stands-end (lineDue p) s e (f .stands)
+  -- the first bytes of a line, held, are read as the line
+  line-ends : (text : List ℕ) → reading .verdict ≡ Accepted → reading .lines < mostLines → take (t .intake .held) (t .line) ≡ take headRoom text
+      → endLine t
+      ≡ afterLine (saysAs (lineDue (t .intake .position)) (suc (reading .lines)) text) (lineDue (t .intake .position)) (t .intake) (t .memory) (t .line)
+  unfolding endLine
+  line-ends text v l same =
+      let due : FormatLine = lineDue (t .intake .position) in
+      unless-accepted (t .intake .verdict) _ t (h .verdict ∙ v)
+      ∙ ap (λ said. afterLine said due (t .intake) (t .memory) (t .line))
+      (ap (saysAs due (oneMore (t .intake .lines))) same
+      ∙ sym (decided-by-head due (oneMore (t .intake .lines)) text)
+      ∙ ap (λ at. saysAs due at text) (next-line l))
 
-  -- ---- the two readings
+  line-read : (text : List ℕ)
+      → readTextLine reading text
+      ≡ lineRead (judge (lineRules (shapeOf (lineDue (t .intake .position))) (suc (reading .lines)) text)) (shapeOf (lineDue (t .intake .position))) reading text
+  unfolding readTextLine shapeDue
+  line-read text = ap (λ due. lineRead (judge (lineRules (shapeOf due) (suc (reading .lines)) text)) (shapeOf due) reading text) due-next
 
-  pub record Simulates (reading : TextReading) (t : Taken) : Type 0 where
-    pub verdict : t .intake .verdict ≡ reading .verdict
-    pub lines : t .intake .lines ≡ reading .lines
-    pub due : reading .due ≡ linesDue (t .intake .position)
-    pub follows : Follows (reading .stated) (t .intake .position) (keptIn (t .intake .kept) (t .memory))
-
-  module _ (reading : TextReading) (t : Taken) (h : Simulates reading t) where
-    pub due-next : getD (reading .due) 0 EndOfText ≡ lineDue (t .intake .position)
-    due-next = ap (λ l. getD l 0 EndOfText) (h .due) ∙ first-due (t .intake .position)
-
-    pub next-line : reading .lines < mostLines → oneMore (t .intake .lines) ≡ suc (reading .lines)
-    next-line l = omega (arith, h .lines)
-
-    simulates-said : (text : List ℕ) (v : Verdict) → reading .lines < mostLines
-        → judge (lineRules (shapeOf (lineDue (t .intake .position))) (suc (reading .lines)) text) ≡ v
-        → Simulates (lineRead v (shapeOf (lineDue (t .intake .position))) reading text)
-        (afterLine (saidBy v (numbersIn (shapeOf (lineDue (t .intake .position))) text)) (lineDue (t .intake .position)) (t .intake) (t .memory) (t .line))
-    simulates-said text Accepted l e =
-        let p : Position = t .intake .position in
-        let on : isEnd (shapeOf (lineDue p)) ≡ false = no-end (shapeOf (lineDue p)) (suc (reading .lines)) text e in
-        record {
-          verdict = refl;
-          lines = next-line l;
-          due = ap (λ ls. linesAnnounced (shapeOf (lineDue p)) text ++ tail ls) (h .due) ∙ sym (moved p text on);
-          follows = follows-line (reading .stated) p (keptIn (t .intake .kept) (t .memory)) text on (h .follows);
-        }
-    simulates-said text (Refused why) l e = record { verdict = refl; lines = h .lines; due = h .due; follows = h .follows }
-
-    -- the first bytes of a line, held, are read as the line
-    line-ends : (text : List ℕ) → reading .verdict ≡ Accepted → reading .lines < mostLines → take (t .intake .held) (t .line) ≡ take headRoom text
-        → endLine t
-        ≡ afterLine (saysAs (lineDue (t .intake .position)) (suc (reading .lines)) text) (lineDue (t .intake .position)) (t .intake) (t .memory) (t .line)
-    unfolding endLine
-    line-ends text v l same =
-        let due : FormatLine = lineDue (t .intake .position) in
-        unless-accepted (t .intake .verdict) _ t (h .verdict ∙ v)
-        ∙ ap (λ said. afterLine said due (t .intake) (t .memory) (t .line))
-        (ap (saysAs due (oneMore (t .intake .lines))) same
-        ∙ sym (L .decided due (oneMore (t .intake .lines)) text)
-        ∙ ap (λ at. saysAs due at text) (next-line l))
-
-    line-read : (text : List ℕ)
-        → readTextLine reading text
-        ≡ lineRead (judge (lineRules (shapeOf (lineDue (t .intake .position))) (suc (reading .lines)) text)) (shapeOf (lineDue (t .intake .position))) reading text
-    unfolding readTextLine shapeDue
-    line-read text = ap (λ due. lineRead (judge (lineRules (shapeOf due) (suc (reading .lines)) text)) (shapeOf due) reading text) due-next
-
-    pub simulates-line : (text : List ℕ) → reading .verdict ≡ Accepted → reading .lines < mostLines → take (t .intake .held) (t .line) ≡ take headRoom text
-        → Simulates (readTextLine reading text) (endLine t)
-    unfolding saysAs shapeSays
-    simulates-line text v l same =
-        rw (line-read text, line-ends text v l same)
-        (simulates-said text (judge (lineRules (shapeOf (lineDue (t .intake .position))) (suc (reading .lines)) text)) l refl)
+  pub simulates-line : (text : List ℕ) → reading .verdict ≡ Accepted → reading .lines < mostLines → take (t .intake .held) (t .line) ≡ take headRoom text
+      → Simulates (readTextLine reading text) (endLine t)
+  unfolding saysAs shapeSays
+  simulates-line text v l same =
+      rw (line-read text, line-ends text v l same)
+      (simulates-said text (judge (lineRules (shapeOf (lineDue (t .intake .position))) (suc (reading .lines)) text)) l refl)

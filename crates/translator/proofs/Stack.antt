@@ -1,7 +1,7 @@
 -- The list of lines that a position stands for: it begins with the line that is due, and a line in order does to it what the rules do to theirs.
 -- Assumes nothing.
 use mathlib.Core.Path.{_≡_, refl, sym, _∙_}
-use mathlib.Core.Bool.{Bool, true, false}
+use mathlib.Core.Bool.{false}
 use mathlib.Core.List.{List, [], _∷_, _++_, tail, append-nil, append-assoc}
 use Prim.Native.Nat.{ℕ, zero, suc, _-_}
 use native.Mathlib.Omega.{arith}
@@ -83,7 +83,7 @@ linesDue p = linesFrom (p .line) (p .inner) (p .outer) (p .variables)
 
 -- ---- its first
 
-pub more : (left : ℕ) → eqb (suc left) 0 ≡ false
+more : (left : ℕ) → eqb (suc left) 0 ≡ false
 more left = ne-eqb (suc left) 0 (λ e. omega arith)
 
 first-from : (line : FormatLine) (i o n : ℕ) → getD (linesFrom line i o n) 0 EndOfText ≡ dueIn line i o

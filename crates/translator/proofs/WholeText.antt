@@ -2,30 +2,29 @@
 -- Assumes nothing.
 use mathlib.Core.Path.{_≡_, refl, sym, ap, _∙_}
 use mathlib.Core.Logic.{⊎-elim}
-use mathlib.Core.Bool.{Bool, true, false, cond, _&&_}
+use mathlib.Core.Bool.{true}
 use mathlib.Core.List.{List, [], _∷_, _++_, foldl, append-nil}
-use Prim.Native.Nat.{ℕ, suc, _+_, _*_, _≤_, _<_}
+use Prim.Native.Nat.{ℕ, suc, _*_, _≤_, _<_}
 use native.Mathlib.Omega.{arith}
-use borrow.Author.Tests.{le-leb, leb-true, eqb-true, eqb-false}
-use lib.Dec.{eqb, leb}
-use lib.ListN.{length, take, set, length-set}
+use borrow.Author.Tests.{le-leb, eqb-true, eqb-false}
+use lib.Dec.{eqb}
+use lib.ListN.{length, take, length-set}
 use Rattle.rules.specs.Counting.{joined}
-use Rattle.rules.specs.Limits.{maxVariables, maxGoals, maxActions, maxPairs, maxAction, contentsBytes, pairBytes}
+use Rattle.rules.specs.Limits.{maxVariables, maxGoals, maxActions, maxPairs, maxAction, contentsBytes}
 use Rattle.rules.specs.Answers.{demand, judge, inTurn}
-use Rattle.rules.specs.Task.{Task, taskRules}
-use Rattle.rules.specs.File.{contentsFrom, bodiesOf, fileOf}
+use Rattle.rules.specs.Task.{taskRules}
+use Rattle.rules.specs.File.{contentsFrom, fileOf}
 use Rattle.rules.specs.Text.{lf}
 use Rattle.rules.specs.Output.{linesOf}
 use Rattle.rules.specs.Calls.{roomRule, lentAfter}
 use Rattle.rules.specs.Format.{Stated, nothingStated, noAction, shapeOf, lineRules, stated}
 use Rattle.rules.specs.Translation.{TextReading, textBegun, shapeDue, readTextLines, readText, isEnd, endOfReading, textVerdict, textTask, statedVerdict, translationVerdict, translationAfter}
-use Rattle.rules.specs.declared.FormatLine.{FormatLine}
 use Rattle.rules.specs.declared.Refusal.{Refusal}
-use Rattle.rules.specs.declared.Refusal.the-variants.{BodyLength, ActionAtFault, AgainstFormat}
+use Rattle.rules.specs.declared.Refusal.the-variants.{ActionAtFault, AgainstFormat}
 use Rattle.rules.specs.declared.Verdict.{Verdict}
 use Rattle.rules.specs.declared.Verdict.the-variants.{Accepted, Refused}
-use Rattle.rules.proofs.Bools.{either, clash, and-left, and-right, below-or}
-use Rattle.rules.proofs.Judging.{refused-not, judge-head, judge-append, judge-passed, judge-refused, judge-nil, inTurn-left, inTurn-right}
+use Rattle.rules.proofs.Bools.{either, below-or}
+use Rattle.rules.proofs.Judging.{refused-not, judge-head, judge-append, inTurn-left, inTurn-right}
 use Rattle.rules.proofs.Cut.{lines-most, holds-none}
 use Rattle.writer.specs.Laid.{laidOut}
 use Rattle.textlines.specs.Says.{numbersIn, saidBy, shapeSays, saysAs}
@@ -33,13 +32,14 @@ use Rattle.bodies.specs.Keeping.{nothingKept, goalRoom, actionsRoom, Sound}
 use Rattle.bodies.specs.declared.Kept.{Kept}
 use Rattle.bodies.specs.declared.Excess.{Excess}
 use Rattle.bodies.specs.declared.Excess.the-variants.{Within, Lengths, Actions}
+use Rattle.bodies.proofs.States.{before-nothing, states-begun}
+use Rattle.bodies.proofs.Verdicts.{taskVerdict, verdict-within, bodies-within, verdict-lengths, verdict-actions}
 use Rattle.translator.specs.Position.{firstPosition, lineDue}
-use Rattle.translator.specs.Intake.{Memory, keptIn, mostLines, oneMore, Taken, taken, afterLine, endLine, headRoom, withHeld, takeByte, takeAll, countsFit, lentFits, hasRoom, takeCall, begun, lastLine, rulesKept, fileKept, verdictKept, endVerdict, translation, Ended, endWith, finishCall}
+use Rattle.translator.specs.Intake.{Memory, keptIn, mostLines, oneMore, Taken, taken, afterLine, endLine, headRoom, takeByte, takeAll, actionsFit, countsFit, lentFits, hasRoom, Lent, Ready, takeCall, begun, lastLine, rulesKept, fileKept, verdictKept, endVerdict, translation, Ended, endWith, finishCall}
 use Rattle.translator.specs.declared.position.Position.{Position}
-use Rattle.translator.specs.declared.intake.Intake.{Intake}
 use Rattle.translator.proofs.Stack.{linesDue, no-end}
-use Rattle.translator.proofs.Simulated.{Laws, unless-accepted, unless-refused, Keeps, sound, Follows, follows-line, follows-end, Simulates, due-next, next-line}
-use Rattle.translator.proofs.InPieces.{taken-in-pieces, taken-nothing, by-verdict, chosen-true, chosen-false, byte-ends, byte-held, byte-passed, all-lines, whole}
+use Rattle.translator.proofs.Simulated.{unless-accepted, unless-refused, Keeps, Follows, follows-line, follows-end, Simulates, due-next, next-line}
+use Rattle.translator.proofs.InPieces.{taken-in-pieces, taken-nothing, by-verdict, chosen-true, byte-ends, byte-held, byte-passed, all-lines, whole}
 
 -- ---- verdicts in turn
 
@@ -66,78 +66,77 @@ by-excess Actions X f g h = h refl
 
 -- ---- the end
 
-module _ (L : Laws) where
-  -- refusals 3 to 7 and 10 on what is kept are those of the task that is stated
-  module _ (s : Stated) (k : Kept) (m : Memory) (h : Keeps L s (keptIn k m)) where
-    kept-within : k .excess ≡ Within → rulesKept k m ≡ judge (taskRules true (λ a. true) (s .task))
-    unfolding rulesKept
-    kept-within e = L .judged-within s k (m .sizes) (m .start) (m .goal) (m .actions) (h .states) e
+-- refusals 3 to 7 and 10 on what is kept are those of the task that is stated
+module _ (s : Stated) (k : Kept) (m : Memory) (h : Keeps s (keptIn k m)) where
+  kept-within : k .excess ≡ Within → rulesKept k m ≡ taskVerdict (s .task)
+  unfolding rulesKept
+  kept-within e = verdict-within s k (m .sizes) (m .start) (m .goal) (m .actions) (h .states) e
 
-    file-within : k .excess ≡ Within → judge (taskRules true (λ a. true) (s .task)) ≡ Accepted → fileKept k m ≡ fileOf (s .task)
-    unfolding fileKept laidOut fileOf
-    file-within e a =
-        ap (λ bodies. contentsFrom contentsBytes bodies ++ joined bodies) (L .bodies-within s k (m .sizes) (m .start) (m .goal) (m .actions) (h .states) e a)
+  file-within : k .excess ≡ Within → taskVerdict (s .task) ≡ Accepted → fileKept k m ≡ fileOf (s .task)
+  unfolding fileKept laidOut fileOf
+  file-within e a =
+      ap (λ bodies. contentsFrom contentsBytes bodies ++ joined bodies) (bodies-within s k (m .sizes) (m .start) (m .goal) (m .actions) (h .states) e a)
 
-    kept-verdict : (room : ℕ) → s .action ≡ noAction → verdictKept (k .excess) k m room ≡ statedVerdict (s .task) room
-    unfolding statedVerdict rulesKept
-    kept-verdict room idle =
-        let task : Verdict = judge (taskRules true (λ a. true) (s .task)) in
-        let needed : Verdict = judge (roomRule (length (fileOf (s .task))) room) in
-        by-excess (k .excess) (verdictKept (k .excess) k m room ≡ statedVerdict (s .task) room)
-        (λ e.
-        ap (λ x. verdictKept x k m room) e
-        ∙ ap (λ v. inTurn v (judge (roomRule (length (fileKept k m)) room))) (kept-within e)
-        ∙ inTurn-same task _ needed (λ a. ap (λ file. judge (roomRule (length file) room)) (file-within e a))
-        ∙ sym (judge-append (taskRules true (λ a. true) (s .task)) (roomRule (length (fileOf (s .task))) room)))
-        (λ e.
-        ap (λ x. verdictKept x k m room) e
-        ∙ sym
-        (judge-append (taskRules true (λ a. true) (s .task)) (roomRule (length (fileOf (s .task))) room)
-        ∙ ap (λ v. inTurn v needed) (L .judged-lengths s k (m .sizes) (m .start) (m .goal) (m .actions) (h .states) e)))
-        (λ e.
-        ap (λ x. verdictKept x k m room) e
-        ∙ inTurn-stops (rulesKept k m) (ActionAtFault (k .actions)) needed
-        ∙ ap (λ v. inTurn v needed) (sym (L .judged-actions s k (m .sizes) (m .start) (m .goal) (m .actions) (h .states) e idle))
-        ∙ sym (judge-append (taskRules true (λ a. true) (s .task)) (roomRule (length (fileOf (s .task))) room)))
+  kept-verdict : (room : ℕ) → s .action ≡ noAction → verdictKept (k .excess) k m room ≡ statedVerdict (s .task) room
+  unfolding statedVerdict rulesKept
+  kept-verdict room idle =
+      let task : Verdict = taskVerdict (s .task) in
+      let needed : Verdict = judge (roomRule (length (fileOf (s .task))) room) in
+      by-excess (k .excess) (verdictKept (k .excess) k m room ≡ statedVerdict (s .task) room)
+      (λ e.
+      ap (λ x. verdictKept x k m room) e
+      ∙ ap (λ v. inTurn v (judge (roomRule (length (fileKept k m)) room))) (kept-within e)
+      ∙ inTurn-same task _ needed (λ a. ap (λ file. judge (roomRule (length file) room)) (file-within e a))
+      ∙ sym (judge-append (taskRules true (λ a. true) (s .task)) (roomRule (length (fileOf (s .task))) room)))
+      (λ e.
+      ap (λ x. verdictKept x k m room) e
+      ∙ sym
+      (judge-append (taskRules true (λ a. true) (s .task)) (roomRule (length (fileOf (s .task))) room)
+      ∙ ap (λ v. inTurn v needed) (verdict-lengths s k (m .sizes) (m .start) (m .goal) (m .actions) (h .states) e)))
+      (λ e.
+      ap (λ x. verdictKept x k m room) e
+      ∙ inTurn-stops (rulesKept k m) (ActionAtFault (k .actions)) needed
+      ∙ ap (λ v. inTurn v needed) (sym (verdict-actions s k (m .sizes) (m .start) (m .goal) (m .actions) (h .states) e idle))
+      ∙ sym (judge-append (taskRules true (λ a. true) (s .task)) (roomRule (length (fileOf (s .task))) room)))
 
-    file-accepted : (room : ℕ) → verdictKept (k .excess) k m room ≡ Accepted → fileKept k m ≡ fileOf (s .task)
-    file-accepted room a =
-        by-excess (k .excess) (fileKept k m ≡ fileOf (s .task))
-        (λ e. file-within e (sym (kept-within e) ∙ inTurn-left (rulesKept k m) _ (ap (λ x. verdictKept x k m room) (sym e) ∙ a)))
-        (λ e. refused-not (ap (λ x. verdictKept x k m room) (sym e) ∙ a))
-        (λ e. inTurn-refuses (rulesKept k m) (ActionAtFault (k .actions)) (ap (λ x. verdictKept x k m room) (sym e) ∙ a))
+  file-accepted : (room : ℕ) → verdictKept (k .excess) k m room ≡ Accepted → fileKept k m ≡ fileOf (s .task)
+  file-accepted room a =
+      by-excess (k .excess) (fileKept k m ≡ fileOf (s .task))
+      (λ e. file-within e (sym (kept-within e) ∙ inTurn-left (rulesKept k m) _ (ap (λ x. verdictKept x k m room) (sym e) ∙ a)))
+      (λ e. refused-not (ap (λ x. verdictKept x k m room) (sym e) ∙ a))
+      (λ e. inTurn-refuses (rulesKept k m) (ActionAtFault (k .actions)) (ap (λ x. verdictKept x k m room) (sym e) ∙ a))
 
-  module _ (reading : TextReading) (t : Taken) (s : Simulates L reading t) (l : reading .lines < mostLines) where
-    -- a text that stops early is told from one that ends, and at the same line
-    ends-alike : judge (demand (isEnd (shapeOf (lineDue (t .intake .position)))) (AgainstFormat (oneMore (t .intake .lines))) ∷ [])
-        ≡ judge (demand (isEnd (shapeDue reading)) (AgainstFormat (suc (reading .lines))) ∷ [])
-    unfolding shapeDue
-    ends-alike =
-        ap (λ at. judge (demand (isEnd (shapeOf (lineDue (t .intake .position)))) (AgainstFormat at) ∷ [])) (next-line L reading t s l)
-        ∙ ap (λ due. judge (demand (isEnd (shapeOf due)) (AgainstFormat (suc (reading .lines))) ∷ [])) (sym (due-next L reading t s))
+module _ (reading : TextReading) (t : Taken) (s : Simulates reading t) (l : reading .lines < mostLines) where
+  -- a text that stops early is told from one that ends, and at the same line
+  ends-alike : judge (demand (isEnd (shapeOf (lineDue (t .intake .position)))) (AgainstFormat (oneMore (t .intake .lines))) ∷ [])
+      ≡ judge (demand (isEnd (shapeDue reading)) (AgainstFormat (suc (reading .lines))) ∷ [])
+  unfolding shapeDue
+  ends-alike =
+      ap (λ at. judge (demand (isEnd (shapeOf (lineDue (t .intake .position)))) (AgainstFormat at) ∷ [])) (next-line reading t s l)
+      ∙ ap (λ due. judge (demand (isEnd (shapeOf due)) (AgainstFormat (suc (reading .lines))) ∷ [])) (sym (due-next reading t s))
 
-    end-verdict : (room : ℕ) → endVerdict t room ≡ inTurn (endOfReading reading) (statedVerdict (reading .stated .task) room)
-    unfolding endVerdict endOfReading
-    end-verdict room =
-        let p : Position = t .intake .position in
-        let ends : Verdict = judge (demand (isEnd (shapeOf (lineDue p))) (AgainstFormat (oneMore (t .intake .lines))) ∷ []) in
-        let rest : Verdict = verdictKept (t .intake .kept .excess) (t .intake .kept) (t .memory) room in
-        let task : Verdict = statedVerdict (reading .stated .task) room in
-        let same : inTurn ends rest ≡ inTurn ends task =
-        inTurn-same ends rest task
-        (λ a.
-        kept-verdict (reading .stated) (t .intake .kept) (t .memory) (s .follows .keeps) room
-        (follows-end L (reading .stated) p (keptIn (t .intake .kept) (t .memory)) (s .follows) (judge-head _ [] a))) in
-        ap (λ v. inTurn v (inTurn ends rest)) (s .verdict)
-        ∙ ap (inTurn (reading .verdict)) (same ∙ ap (λ v. inTurn v task) ends-alike)
-        ∙ inTurn-three (reading .verdict) _ task
+  end-verdict : (room : ℕ) → endVerdict t room ≡ inTurn (endOfReading reading) (statedVerdict (reading .stated .task) room)
+  unfolding endVerdict endOfReading
+  end-verdict room =
+      let p : Position = t .intake .position in
+      let ends : Verdict = judge (demand (isEnd (shapeOf (lineDue p))) (AgainstFormat (oneMore (t .intake .lines))) ∷ []) in
+      let rest : Verdict = verdictKept (t .intake .kept .excess) (t .intake .kept) (t .memory) room in
+      let task : Verdict = statedVerdict (reading .stated .task) room in
+      let same : inTurn ends rest ≡ inTurn ends task =
+      inTurn-same ends rest task
+      (λ a.
+      kept-verdict (reading .stated) (t .intake .kept) (t .memory) (s .follows .keeps) room
+      (follows-end (reading .stated) p (keptIn (t .intake .kept) (t .memory)) (s .follows) (judge-head _ [] a))) in
+      ap (λ v. inTurn v (inTurn ends rest)) (s .verdict)
+      ∙ ap (inTurn (reading .verdict)) (same ∙ ap (λ v. inTurn v task) ends-alike)
+      ∙ inTurn-three (reading .verdict) _ task
 
-    end-file : (room : ℕ) → endVerdict t room ≡ Accepted → fileKept (t .intake .kept) (t .memory) ≡ fileOf (reading .stated .task)
-    unfolding endVerdict
-    end-file room a =
-        file-accepted (reading .stated) (t .intake .kept) (t .memory) (s .follows .keeps) room
-        (inTurn-right (judge (demand (isEnd (shapeOf (lineDue (t .intake .position)))) (AgainstFormat (oneMore (t .intake .lines))) ∷ [])) _
-        (inTurn-right (t .intake .verdict) _ a))
+  end-file : (room : ℕ) → endVerdict t room ≡ Accepted → fileKept (t .intake .kept) (t .memory) ≡ fileOf (reading .stated .task)
+  unfolding endVerdict
+  end-file room a =
+      file-accepted (reading .stated) (t .intake .kept) (t .memory) (s .follows .keeps) room
+      (inTurn-right (judge (demand (isEnd (shapeOf (lineDue (t .intake .position)))) (AgainstFormat (oneMore (t .intake .lines))) ∷ [])) _
+      (inTurn-right (t .intake .verdict) _ a))
 
 -- the answer, and the lent room
 pub record Translated (text lent : List ℕ) (e : Ended) : Type 0 where
@@ -152,153 +151,125 @@ left : (v w : Verdict) (file text room : List ℕ) → v ≡ w → (v ≡ Accept
 left Accepted w file text room e f = ap (λ l. lentAfter Accepted l room) (f refl) ∙ ap (λ v. lentAfter v text room) e
 left (Refused why) w file text room e f = ap (λ v. lentAfter v text room) e
 
-module _ (L : Laws) where
-  ends-translated : (text : List ℕ) (t : Taken) (room : List ℕ) → Simulates L (readText text) t → readText text .lines < mostLines → Translated text room (endWith t room)
-  unfolding endWith translationVerdict translationAfter textVerdict textTask
-  ends-translated text t room s l =
-      let v : endVerdict t (length room) ≡ inTurn (endOfReading (readText text)) (statedVerdict (readText text .stated .task) (length room)) =
-      end-verdict L (readText text) t s l (length room) in
-      record {
-        answer = answered _ _ _ _ v (end-file L (readText text) t s l (length room));
-        room = left _ _ _ _ room v (end-file L (readText text) t s l (length room));
-      }
-
-  -- ---- the calls: what is lent stays enough
-
-  record Ready (t : Taken) : Type 0 where
-    said : Stated
-    follows : Follows L said (t .intake .position) (keptIn (t .intake .kept) (t .memory))
-    held : t .intake .held ≤ headRoom
-    line : headRoom ≤ length (t .line)
-
-  ready-as : (t u : Taken) → t ≡ u → Ready u → Ready t
-  ready-as t u e r = rw e r
-
-  ready-said : (t : Taken) (at : ℕ) (text : List ℕ) (v : Verdict) → judge (lineRules (shapeOf (lineDue (t .intake .position))) at text) ≡ v → Ready t
-      → Ready (afterLine (saidBy v (numbersIn (shapeOf (lineDue (t .intake .position))) text)) (lineDue (t .intake .position)) (t .intake) (t .memory) (t .line))
-  ready-said t at text Accepted e r =
-      let p : Position = t .intake .position in
-      record {
-        said = stated (shapeOf (lineDue p)) text (r .said);
-        follows = follows-line L (r .said) p (keptIn (t .intake .kept) (t .memory)) text (no-end (shapeOf (lineDue p)) at text e) (r .follows);
-        held = omega arith;
-        line = r .line;
-      }
-  ready-said t at text (Refused why) e r = record { said = r .said; follows = r .follows; held = omega arith; line = r .line }
-
-  ready-line : (t : Taken) → t .intake .verdict ≡ Accepted → Ready t → Ready (endLine t)
-  unfolding endLine saysAs shapeSays
-  ready-line t v r =
-      ready-as _ _ (unless-accepted (t .intake .verdict) _ t v)
-      (ready-said t (oneMore (t .intake .lines)) (take (t .intake .held) (t .line)) _ refl r)
-
-  ready-byte : (t : Taken) (b : ℕ) → Ready t → Ready (takeByte t b)
-  unfolding takeByte
-  ready-byte t b r =
-      by-verdict (t .intake .verdict) (Ready (takeByte t b))
-      (λ v.
-      ⊎-elim (λ c. ready-as (takeByte t b) (endLine t) (byte-ends t b v (eqb-true b lf c)) (ready-line t v r))
-      (λ c.
-      ⊎-elim
-      (λ h.
-      ready-as (takeByte t b) _ (byte-held t b v (eqb-false b lf c) h)
-      (record { said = r .said; follows = r .follows; held = omega arith; line = omega (arith, r .line, length-set (t .line) (t .intake .held) b) }))
-      (λ h. ready-as (takeByte t b) t (byte-passed t b v (eqb-false b lf c) h) r)
-      (below-or (t .intake .held) headRoom))
-      (either (eqb b lf)))
-      (λ why e. ready-as (takeByte t b) t (unless-refused (t .intake .verdict) why _ t e) r)
-
-  ready-all : (t : Taken) (bytes : List ℕ) → Ready t → Ready (takeAll t bytes)
-  unfolding takeAll
-  ready-all t [] r = r
-  ready-all t (b ∷ bytes) r = ready-all (takeByte t b) bytes (ready-byte t b r)
-
-  ready-room : (t : Taken) → Ready t → hasRoom t ≡ true
-  unfolding hasRoom countsFit lentFits
-  ready-room t r =
-      let k : Kept = t .intake .kept in
-      let o : Sound k = sound L (r .said) (keptIn k (t .memory)) (r .follows .keeps) in
-      rw
-      (le-leb (k .sizes) maxVariables (o .sizes), le-leb (k .starts) maxVariables (o .starts), le-leb (k .goals) maxGoals (o .goals),
-      le-leb (k .actions) maxActions (o .actions), le-leb (k .bytes) (maxAction * k .actions) (o .bytes),
-      le-leb (k .preconditions) maxPairs (o .preconditions), le-leb (k .effects) maxPairs (o .effects),
-      le-leb (t .intake .held) headRoom (r .held),
-      le-leb maxVariables (length (t .memory .sizes)) (r .follows .keeps .sizes),
-      le-leb maxVariables (length (t .memory .start)) (r .follows .keeps .start),
-      le-leb goalRoom (length (t .memory .goal)) (r .follows .keeps .goal),
-      le-leb actionsRoom (length (t .memory .actions)) (r .follows .keeps .actions),
-      le-leb headRoom (length (t .line)) (r .line))
-
-  call-takes : (t : Taken) (bytes : List ℕ) → Ready t → takeCall t bytes ≡ takeAll t bytes
-  unfolding takeCall
-  call-takes t bytes r = chosen-true (hasRoom t) _ _ (ready-room t r)
-
-  call-finishes : (t : Taken) (room : List ℕ) → Ready t → finishCall t room ≡ endWith (lastLine t) room
-  unfolding finishCall
-  call-finishes t room r = chosen-true (hasRoom t) _ _ (ready-room t r)
-
-  calls-take : (t : Taken) (parts : List (List ℕ)) → Ready t → foldl takeCall t parts ≡ takeAll t (joined parts)
-  unfolding joined
-  calls-take t [] r = taken-nothing t
-  calls-take t (p ∷ parts) r =
-      ap (λ u. foldl takeCall u parts) (call-takes t p r)
-      ∙ calls-take (takeAll t p) parts (ready-all t p r)
-      ∙ taken-in-pieces t p (joined parts)
-
--- room for each body and for the first bytes of a line
-pub record Lent (m : Memory) (line : List ℕ) : Type 0 where
-  pub sizes : maxVariables ≤ length (m .sizes)
-  pub start : maxVariables ≤ length (m .start)
-  pub goal : goalRoom ≤ length (m .goal)
-  pub actions : actionsRoom ≤ length (m .actions)
-  pub held : headRoom ≤ length line
-
-pub lent-begun : (m : Memory) (line : List ℕ) → hasRoom (taken begun m line) ≡ true → Lent m line
-unfolding hasRoom lentFits
-lent-begun m line h =
-    let a : Bool = leb maxVariables (length (m .sizes)) in
-    let b : Bool = leb maxVariables (length (m .start)) in
-    let c : Bool = leb goalRoom (length (m .goal)) in
-    let d : Bool = leb actionsRoom (length (m .actions)) in
-    let e : Bool = leb headRoom (length line) in
-    let abcde : (a && b && c && d && e) ≡ true = and-right (countsFit nothingKept && leb 0 headRoom) (a && b && c && d && e) h in
-    let abcd : (a && b && c && d) ≡ true = and-left (a && b && c && d) e abcde in
-    let abc : (a && b && c) ≡ true = and-left (a && b && c) d abcd in
-    let ab : (a && b) ≡ true = and-left (a && b) c abc in
+ends-translated : (text : List ℕ) (t : Taken) (room : List ℕ) → Simulates (readText text) t → readText text .lines < mostLines → Translated text room (endWith t room)
+unfolding endWith translationVerdict translationAfter textVerdict textTask
+ends-translated text t room s l =
+    let v : endVerdict t (length room) ≡ inTurn (endOfReading (readText text)) (statedVerdict (readText text .stated .task) (length room)) =
+    end-verdict (readText text) t s l (length room) in
     record {
-      sizes = leb-true maxVariables (length (m .sizes)) (and-left a b ab);
-      start = leb-true maxVariables (length (m .start)) (and-right a b ab);
-      goal = leb-true goalRoom (length (m .goal)) (and-right (a && b) c abc);
-      actions = leb-true actionsRoom (length (m .actions)) (and-right (a && b && c) d abcd);
-      held = leb-true headRoom (length line) (and-right (a && b && c && d) e abcde);
+      answer = answered _ _ _ _ v (end-file (readText text) t s l (length room));
+      room = left _ _ _ _ room v (end-file (readText text) t s l (length room));
     }
 
-module _ (L : Laws) (m : Memory) (line : List ℕ) (h : Lent m line) where
-  follows-begun : Follows L nothingStated firstPosition (keptIn nothingKept m)
+-- ---- the calls: what is lent stays enough
+
+record Going (t : Taken) : Type 0 where
+  said : Stated
+  follows : Follows said (t .intake .position) (keptIn (t .intake .kept) (t .memory))
+  held : t .intake .held ≤ headRoom
+  line : headRoom ≤ length (t .line)
+
+going-as : (t u : Taken) → t ≡ u → Going u → Going t
+going-as t u e g = rw e g
+
+going-said : (t : Taken) (at : ℕ) (text : List ℕ) (v : Verdict) → judge (lineRules (shapeOf (lineDue (t .intake .position))) at text) ≡ v → Going t
+    → Going (afterLine (saidBy v (numbersIn (shapeOf (lineDue (t .intake .position))) text)) (lineDue (t .intake .position)) (t .intake) (t .memory) (t .line))
+going-said t at text Accepted e g =
+    let p : Position = t .intake .position in
+    record {
+      said = stated (shapeOf (lineDue p)) text (g .said);
+      follows = follows-line (g .said) p (keptIn (t .intake .kept) (t .memory)) text (no-end (shapeOf (lineDue p)) at text e) (g .follows);
+      held = omega arith;
+      line = g .line;
+    }
+going-said t at text (Refused why) e g = record { said = g .said; follows = g .follows; held = omega arith; line = g .line }
+
+going-line : (t : Taken) → t .intake .verdict ≡ Accepted → Going t → Going (endLine t)
+unfolding endLine saysAs shapeSays
+going-line t v g =
+    going-as _ _ (unless-accepted (t .intake .verdict) _ t v)
+    (going-said t (oneMore (t .intake .lines)) (take (t .intake .held) (t .line)) _ refl g)
+
+going-byte : (t : Taken) (b : ℕ) → Going t → Going (takeByte t b)
+unfolding takeByte
+going-byte t b g =
+    by-verdict (t .intake .verdict) (Going (takeByte t b))
+    (λ v.
+    ⊎-elim (λ c. going-as (takeByte t b) (endLine t) (byte-ends t b v (eqb-true b lf c)) (going-line t v g))
+    (λ c.
+    ⊎-elim
+    (λ h.
+    going-as (takeByte t b) _ (byte-held t b v (eqb-false b lf c) h)
+    (record { said = g .said; follows = g .follows; held = omega arith; line = omega (arith, g .line, length-set (t .line) (t .intake .held) b) }))
+    (λ h. going-as (takeByte t b) t (byte-passed t b v (eqb-false b lf c) h) g)
+    (below-or (t .intake .held) headRoom))
+    (either (eqb b lf)))
+    (λ why e. going-as (takeByte t b) t (unless-refused (t .intake .verdict) why _ t e) g)
+
+going-all : (t : Taken) (bytes : List ℕ) → Going t → Going (takeAll t bytes)
+unfolding takeAll
+going-all t [] g = g
+going-all t (b ∷ bytes) g = going-all (takeByte t b) bytes (going-byte t b g)
+
+pub ready-room : (t : Taken) → Ready t → hasRoom t ≡ true
+unfolding hasRoom countsFit actionsFit lentFits
+ready-room t r =
+    let k : Kept = t .intake .kept in
+    let o : Sound k = r .kept in
+    rw (
+      le-leb (k .sizes) maxVariables (o .sizes),
+      le-leb (k .starts) maxVariables (o .starts),
+      le-leb (k .goals) maxGoals (o .goals),
+      le-leb (k .actions) maxActions (o .actions),
+      le-leb (k .bytes) (maxAction * k .actions) (o .bytes),
+      le-leb (k .preconditions) maxPairs (o .preconditions),
+      le-leb (k .effects) maxPairs (o .effects),
+      le-leb (t .intake .held) headRoom (r .held),
+      le-leb maxVariables (length (t .memory .sizes)) (r .lent .sizes),
+      le-leb maxVariables (length (t .memory .start)) (r .lent .start),
+      le-leb goalRoom (length (t .memory .goal)) (r .lent .goal),
+      le-leb actionsRoom (length (t .memory .actions)) (r .lent .actions),
+      le-leb headRoom (length (t .line)) (r .line),
+    )
+
+going-room : (t : Taken) → Going t → hasRoom t ≡ true
+going-room t g =
+    ready-room t (record { kept = g .follows .keeps .states .sound; held = g .held; lent = g .follows .keeps .lent; line = g .line })
+
+call-takes : (t : Taken) (bytes : List ℕ) → Going t → takeCall t bytes ≡ takeAll t bytes
+unfolding takeCall
+call-takes t bytes g = chosen-true (hasRoom t) _ _ (going-room t g)
+
+call-finishes : (t : Taken) (room : List ℕ) → Going t → finishCall t room ≡ endWith (lastLine t) room
+unfolding finishCall
+call-finishes t room g = chosen-true (hasRoom t) _ _ (going-room t g)
+
+calls-take : (t : Taken) (parts : List (List ℕ)) → Going t → foldl takeCall t parts ≡ takeAll t (joined parts)
+unfolding joined
+calls-take t [] g = taken-nothing t
+calls-take t (p ∷ parts) g =
+    ap (λ u. foldl takeCall u parts) (call-takes t p g)
+    ∙ calls-take (takeAll t p) parts (going-all t p g)
+    ∙ taken-in-pieces t p (joined parts)
+
+-- ---- from the start
+
+lines-few : (text : List ℕ) → length text < mostLines → readText text .lines < mostLines
+unfolding readText readTextLines
+lines-few text l = omega (arith, all-lines textBegun (linesOf text), lines-most text)
+
+module _ (m : Memory) (line : List ℕ) (h : Lent m) (fits : headRoom ≤ length line) where
+  follows-begun : Follows nothingStated firstPosition (keptIn nothingKept m)
   unfolding lineDue
   follows-begun =
-      record {
-        stands = record { no-actions = refl; no-pairs = refl };
-        keeps =
-            record {
-              states = L .nothing (m .sizes) (m .start) (m .goal) (m .actions);
-              sizes = h .sizes;
-              start = h .start;
-              goal = h .goal;
-              actions = h .actions;
-            };
-      }
+      record { stands = before-nothing; keeps = record { states = states-begun (m .sizes) (m .start) (m .goal) (m .actions); lent = h } }
 
-  ready-begun : Ready L (taken begun m line)
-  ready-begun = record { said = nothingStated; follows = follows-begun; held = omega arith; line = h .held }
+  going-begun : Going (taken begun m line)
+  going-begun = record { said = nothingStated; follows = follows-begun; held = omega arith; line = fits }
 
-  simulates-begun : Simulates L textBegun (taken begun m line)
+  simulates-begun : Simulates textBegun (taken begun m line)
   unfolding linesDue
   simulates-begun = record { verdict = refl; lines = refl; due = refl; follows = follows-begun }
-
-  lines-few : (text : List ℕ) → length text < mostLines → readText text .lines < mostLines
-  unfolding readText readTextLines
-  lines-few text l = omega (arith, all-lines textBegun (linesOf text), lines-most text)
 
   -- the theorem: any text, cut anywhere, is translated as the rules say
   pub translated : (parts : List (List ℕ)) (room : List ℕ) → length (joined parts) < mostLines
@@ -306,7 +277,14 @@ module _ (L : Laws) (m : Memory) (line : List ℕ) (h : Lent m line) where
   translated parts room l =
       let text : List ℕ = joined parts in
       let t : Taken = taken begun m line in
-      rw (calls-take L t parts ready-begun, call-finishes L (takeAll t text) room (ready-all L t text ready-begun))
-      (ends-translated L text (lastLine (takeAll t text)) room
-      (whole L t text simulates-begun (holds-none headRoom line (h .held)) l)
+      rw (calls-take t parts going-begun, call-finishes (takeAll t text) room (going-all t text going-begun))
+      (ends-translated text (lastLine (takeAll t text)) room
+      (whole t text simulates-begun (holds-none headRoom line fits) l)
       (lines-few text l))
+
+  -- a text in one piece
+  pub translated-whole : (text room : List ℕ) → length text < mostLines → Translated text room (finishCall (takeCall (taken begun m line) text) room)
+  unfolding joined
+  translated-whole text room l =
+      let e : text ++ [] ≡ text = append-nil text in
+      rw e at (translated (text ∷ []) room (rw e l))
