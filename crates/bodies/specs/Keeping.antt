@@ -2,7 +2,7 @@
 -- that is being read stand behind the actions kept, preconditions first, with room for its two counts before them.
 -- Assumes nothing.
 use Prim.Native.Nat.{ℕ, _+_, _-_, _*_, min, _≤_}
-use mathlib.Core.Bool.{Bool, cond}
+use mathlib.Core.Bool.{Bool, false, cond}
 use mathlib.Core.List.{List, [], _∷_, _++_}
 use lib.Dec.{ltb}
 use lib.ListN.{take, drop, set}
@@ -101,6 +101,22 @@ oneAction k =
       effects = 0;
       excess = k .excess;
     }
+
+-- no limit has been gone beyond, and one more is within this one
+abbrev pub oneFits : Excess → (count limit : ℕ) → Bool
+oneFits Within count limit = ltb count limit
+oneFits Lengths count limit = false
+oneFits Actions count limit = false
+
+-- the first limit that was gone beyond stays
+abbrev pub excessWith : Excess → Excess → Excess
+excessWith Within excess = excess
+excessWith Lengths excess = Lengths
+excessWith Actions excess = Actions
+
+-- nothing more is kept
+abbrev pub noMore : Excess → Kept → Kept
+noMore excess k = beyond (excessWith (k .excess) excess) k
 
 -- ---- what an operation keeps: beyond a limit nothing; at a limit only that it is gone beyond
 

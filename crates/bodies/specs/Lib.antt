@@ -1,2 +1,3 @@
 -- What is kept of the translator's text, as definitions.
 pub mod Keeping
+pub mod InOrder

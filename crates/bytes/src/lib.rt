@@ -1,4 +1,7 @@
-// Bytes of lent memory by their place, where past the end every byte is 0.
+// Bytes of lent memory by their place, where past the end every byte is 0; words and texts in them.
+pub mod texts;
+pub mod words;
+
 ghost use mathlib.Core.Path.{_≡_};
 ghost use Prim.Native.Nat.{_<_};
 ghost use Rattle.rules.specs.Limits.{byteValues};

@@ -24,7 +24,7 @@ use Rattle.rules.specs.declared.Verdict.the-variants.{Accepted, Refused}
 use Rattle.rules.proofs.Bools.{either, or-right, or-cases, not-true}
 use Rattle.rules.proofs.Judging.{judge-head, judge-tail}
 use Rattle.rows.proofs.Bits.{length-with, bit-written, bit-kept, with-restored, with-order}
-use Rattle.output.specs.Words.{piecesBehind}
+use Rattle.bytes.specs.Words.{piecesBehind}
 use Rattle.output.specs.Trial.{written, pieceScan, trialLeaves, trial, firstGap, numberPieces, rewritten}
 use Rattle.output.specs.declared.numbers.Tried.{Tried}
 use Rattle.output.proofs.WordLaws.{there}

@@ -25,13 +25,15 @@ use Rattle.rules.specs.declared.Verdict.{Verdict}
 use Rattle.rules.specs.declared.Verdict.the-variants.{Accepted, Refused}
 use Rattle.rules.proofs.Bools.{either, or-right}
 use Rattle.rules.proofs.Judging.{judge-nil, judge-refused, judge-passed}
-use Rattle.output.specs.Words.{lengthUntil, piecesBehind, EndsAt, wordOf}
+use Rattle.bytes.specs.Words.{lengthUntil, piecesBehind, EndsAt}
+use Rattle.output.specs.Words.{wordOf}
 use Rattle.output.specs.Trial.{written, pieceScan, PieceTrial, pieceLeaves, pieceTrial, tryPiece, Trial, trialLeaves, trial, firstGap, numberPieces, rewritten}
 use Rattle.output.specs.declared.words.Word.{Word}
 use Rattle.output.specs.declared.words.Word.the-variants.{Number, Broken}
 use Rattle.output.specs.declared.numbers.Piece.{Piece}
 use Rattle.output.specs.declared.numbers.Tried.{Tried}
-use Rattle.output.proofs.WordLaws.{pieces-cut, reach-most}
+use Rattle.bytes.proofs.WordLaws.{pieces-cut}
+use Rattle.output.proofs.WordLaws.{reach-most}
 
 -- ---- what the answer on a word says of it
 

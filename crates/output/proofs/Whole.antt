@@ -3,22 +3,21 @@
 use mathlib.Core.Path.{_≡_, refl, sym, ap, _∙_}
 use mathlib.Core.Logic.{⊎-elim}
 use mathlib.Core.Bool.{Bool, true, cond}
-use mathlib.Core.List.{List, [], _∷_, _++_, foldl, foldl-append, append-assoc, append-nil}
+use mathlib.Core.List.{List, [], _∷_, _++_, foldl, foldl-append}
 use Prim.Native.Nat.{ℕ, _+_, _≤_, _<_, min}
 use native.Mathlib.Omega.{arith}
-use native.Mathlib.Numerals.{add-one}
 use borrow.Author.Tests.{eq-eqb, ne-eqb, eqb-true, eqb-false, le-leb, lt-leb, lt-ltb, le-ltb}
 use lib.Dec.{eqb, leb}
-use lib.ListN.{length, take, set, length-append, length-take, length-set}
-use lib.Seq.{take-all, take-suc-set, take-append-le}
+use lib.ListN.{length, take, set, length-take, length-set}
+use lib.Seq.{take-all}
 use Rattle.rules.specs.Counting.{joined}
 use Rattle.rules.specs.Limits.{maxLine}
 use Rattle.rules.specs.Answers.{demand, judge, inTurn}
 use Rattle.rules.specs.Text.{lf}
 use Rattle.rules.specs.Families.{Literal}
 use Rattle.rules.specs.Rows.{Rows}
-use Rattle.rules.specs.Lines.{onto, pieces, kindOf, lineVerdict, phaseAfter, named, rowsFit, Progress, progress, readLine}
-use Rattle.rules.specs.Output.{withoutEmptyLast, linesOf, readOn, readLines, readOutput}
+use Rattle.rules.specs.Lines.{kindOf, lineVerdict, phaseAfter, named, rowsFit, Progress, progress, readLine}
+use Rattle.rules.specs.Output.{linesOf, readOn, readLines, readOutput}
 use Rattle.rules.specs.declared.Refusal.{Refusal}
 use Rattle.rules.specs.declared.Refusal.the-variants.{Room, Grammar}
 use Rattle.rules.specs.declared.Verdict.{Verdict}
@@ -26,9 +25,9 @@ use Rattle.rules.specs.declared.Verdict.the-variants.{Accepted, Refused}
 use Rattle.rules.specs.declared.Reading.{Reading}
 use Rattle.rules.specs.declared.LineAnswer.{LineAnswer}
 use Rattle.rules.proofs.Bools.{either, below-or, and-left}
+use Rattle.rules.proofs.Cut.{linesAhead, ahead-first, ahead-none, ahead-last, ahead-lf, ahead-byte, Holds, holds-none, holds-more, holds-full}
 use Rattle.output.specs.Line.{bothFit}
 use Rattle.output.specs.Feeding.{lineRoom, Fed, fedByte, feedByte, feedAll, roomFor, hasRoom, feedCall, finished, finish, finishCall}
-use Rattle.output.proofs.WordLaws.{pieces-cut}
 use Rattle.output.proofs.Kept.{all-keep}
 
 -- ---- pieces do not matter
@@ -83,110 +82,56 @@ end-stays : (answer : LineAnswer) (why : Refusal) (rows : Rows) (held : ℕ) (li
     → _≡_ {A = Progress} (finished answer rows held line) (record { answer = answer; rows = rows })
 end-stays answer why rows held line e = rw e
 
--- ---- lines, where some of the first is read already
-
-abbrev prefixed : List ℕ → List (List ℕ) → List (List ℕ)
-prefixed s [] = s ∷ []
-prefixed s (q ∷ qs) = (s ++ q) ∷ qs
-
-prefixed-onto : (s : List ℕ) (b : ℕ) (ps : List (List ℕ)) → prefixed s (onto b ps) ≡ prefixed (s ++ (b ∷ [])) ps
-prefixed-onto s b [] = refl
-prefixed-onto s b (q ∷ qs) = ap (λ l. l ∷ qs) (sym (append-assoc s (b ∷ []) q))
-
-prefixed-none : (bytes : List ℕ) → prefixed [] (pieces lf bytes) ≡ pieces lf bytes
-prefixed-none bytes = rw (pieces-cut lf bytes)
-
-not-last : (l bytes : List ℕ) → withoutEmptyLast (l ∷ pieces lf bytes) ≡ l ∷ withoutEmptyLast (pieces lf bytes)
-unfolding withoutEmptyLast
-not-last l bytes = rw (pieces-cut lf bytes)
-
--- ---- what is held of a line
-
-record Holds (held : ℕ) (line begun : List ℕ) : Type 0 where
-  much : held ≡ min (length begun) lineRoom
-  same : take held line ≡ take lineRoom begun
-  room : lineRoom ≤ length line
-
-holds-none : (line : List ℕ) → lineRoom ≤ length line → Holds 0 line []
-holds-none line h = record { much = refl; same = refl; room = h }
-
-holds-more : (held : ℕ) (line begun : List ℕ) (b : ℕ) → Holds held line begun → held < lineRoom → Holds (held + 1) (set line held b) (begun ++ (b ∷ []))
-holds-more held line begun b h l =
-    let long : length (begun ++ (b ∷ [])) ≡ length begun + 1 = length-append begun (b ∷ []) in
-    record {
-      much = omega (arith, h .much);
-      same =
-          ap (λ k. take k (set line held b)) (add-one held)
-          ∙ take-suc-set line held b (omega (arith, h .room))
-          ∙ ap (λ s. s ++ (b ∷ [])) (h .same ∙ take-all lineRoom begun (omega (arith, h .much)))
-          ∙ sym (take-all lineRoom (begun ++ (b ∷ [])) (omega (arith, h .much)));
-      room = omega (arith, h .room, length-set line held b);
-    }
-
-holds-full : (held : ℕ) (line begun : List ℕ) (b : ℕ) → Holds held line begun → lineRoom ≤ held → Holds held line (begun ++ (b ∷ []))
-holds-full held line begun b h l =
-    let long : length (begun ++ (b ∷ [])) ≡ length begun + 1 = length-append begun (b ∷ []) in
-    record {
-      much = omega (arith, h .much);
-      same = h .same ∙ sym (take-append-le lineRoom begun (b ∷ []) (omega (arith, h .much)));
-      room = h .room;
-    }
+-- ---- the whole
 
 -- the line that is held, read, is the line that was begun
-held-read : (reading : Reading) (rows : Rows) (held : ℕ) (line begun : List ℕ) → Holds held line begun
+held-read : (reading : Reading) (rows : Rows) (held : ℕ) (line begun : List ℕ) → Holds lineRoom held line begun
     → readLine reading rows (take held line) ≡ readLine reading rows begun
 held-read reading rows held line begun h = ap (readLine reading rows) (h .same) ∙ clipped reading rows begun
-
--- ---- the whole
 
 abbrev Read : List ℕ → LineAnswer → Rows → ℕ → List ℕ → List ℕ → Type 0
 Read bytes answer rows held line begun =
     finish (feedAll (record { progress = record { answer = answer; rows = rows }; held = held; line = line }) bytes)
-    ≡ foldl step (record { answer = answer; rows = rows }) (withoutEmptyLast (prefixed begun (pieces lf bytes)))
+    ≡ foldl step (record { answer = answer; rows = rows }) (linesAhead begun bytes)
 
 read-refused : (bytes : List ℕ) (why : Refusal) (rows : Rows) (held : ℕ) (line begun : List ℕ) → Read bytes (LineAnswer.Refused why) rows held line begun
 unfolding finish
 read-refused bytes why rows held line begun =
     ap finish (fed-stays (record { progress = record { answer = LineAnswer.Refused why; rows = rows }; held = held; line = line }) why bytes refl)
-    ∙ sym (lines-stay (record { answer = LineAnswer.Refused why; rows = rows }) why (withoutEmptyLast (prefixed begun (pieces lf bytes))) refl)
+    ∙ sym (lines-stay (record { answer = LineAnswer.Refused why; rows = rows }) why (linesAhead begun bytes) refl)
 
-read-end : (reading : Reading) (rows : Rows) (held : ℕ) (line begun : List ℕ) → Holds held line begun → Read [] (LineAnswer.Next reading) rows held line begun
-unfolding feedAll finish pieces withoutEmptyLast
-read-end reading rows held line [] h = rw (eq-eqb held 0 (h .much))
+read-end : (reading : Reading) (rows : Rows) (held : ℕ) (line begun : List ℕ) → Holds lineRoom held line begun → Read [] (LineAnswer.Next reading) rows held line begun
+unfolding feedAll finish
+read-end reading rows held line [] h =
+    rw (eq-eqb held 0 (h .much)) (ap (foldl step (record { answer = LineAnswer.Next reading; rows = rows })) (sym ahead-none))
 read-end reading rows held line (b ∷ begun) h =
     rw (ne-eqb held 0 (λ e. omega (arith, h .much)))
-    (held-read reading rows held line (b ∷ begun) h ∙ ap (λ s. readLine reading rows (b ∷ s)) (sym (append-nil begun)))
+    (held-read reading rows held line (b ∷ begun) h
+    ∙ ap (foldl step (record { answer = LineAnswer.Next reading; rows = rows })) (sym (ahead-last b begun)))
 
-read-lf : (bytes : List ℕ) (reading : Reading) (rows : Rows) (held : ℕ) (line begun : List ℕ) (b : ℕ) → b ≡ lf → Holds held line begun
+read-lf : (bytes : List ℕ) (reading : Reading) (rows : Rows) (held : ℕ) (line begun : List ℕ) (b : ℕ) → b ≡ lf → Holds lineRoom held line begun
     → Read bytes (readLine reading rows begun .answer) (readLine reading rows begun .rows) 0 line []
     → Read (b ∷ bytes) (LineAnswer.Next reading) rows held line begun
-unfolding feedAll feedByte pieces
+unfolding feedAll feedByte
 read-lf bytes reading rows held line begun b e h rest =
-    let first : Progress = record { answer = LineAnswer.Next reading; rows = rows } in
-    let others : List (List ℕ) = withoutEmptyLast (pieces lf bytes) in
     rw (eq-eqb b lf e)
     (ap (λ p. finish (feedAll (record { progress = p; held = 0; line = line }) bytes)) (held-read reading rows held line begun h)
     ∙ rest
-    ∙ ap (λ ls. foldl step (readLine reading rows begun) (withoutEmptyLast ls)) (prefixed-none bytes)
-    ∙ ap (λ l. foldl step (readLine reading rows l) others) (sym (append-nil begun))
-    ∙ ap (foldl step first) (sym (not-last (begun ++ []) bytes)))
+    ∙ ap (foldl step (record { answer = LineAnswer.Next reading; rows = rows })) (sym (ahead-lf begun bytes b e)))
 
-read-byte : (bytes : List ℕ) (reading : Reading) (rows : Rows) (held : ℕ) (line begun : List ℕ) (b : ℕ) → (b ≡ lf → ⊥) → Holds held line begun
-    → ((held : ℕ) (line begun : List ℕ) → Holds held line begun → Read bytes (LineAnswer.Next reading) rows held line begun)
+read-byte : (bytes : List ℕ) (reading : Reading) (rows : Rows) (held : ℕ) (line begun : List ℕ) (b : ℕ) → (b ≡ lf → ⊥) → Holds lineRoom held line begun
+    → ((held : ℕ) (line begun : List ℕ) → Holds lineRoom held line begun → Read bytes (LineAnswer.Next reading) rows held line begun)
     → Read (b ∷ bytes) (LineAnswer.Next reading) rows held line begun
-unfolding feedAll feedByte pieces
+unfolding feedAll feedByte
 read-byte bytes reading rows held line begun b e h rest =
-    let first : Progress = record { answer = LineAnswer.Next reading; rows = rows } in
-    let longer : foldl step first (withoutEmptyLast (prefixed (begun ++ (b ∷ [])) (pieces lf bytes)))
-    ≡ foldl step first (withoutEmptyLast (prefixed begun (onto b (pieces lf bytes)))) =
-    ap (λ ls. foldl step first (withoutEmptyLast ls)) (sym (prefixed-onto begun b (pieces lf bytes))) in
+    let longer = ap (foldl step (record { answer = LineAnswer.Next reading; rows = rows })) (sym (ahead-byte begun bytes b e)) in
     rw (ne-eqb b lf e)
     (⊎-elim
-    (λ l. rw (lt-ltb held lineRoom l) (rest (held + 1) (set line held b) (begun ++ (b ∷ [])) (holds-more held line begun b h l) ∙ longer))
-    (λ l. rw (le-ltb held lineRoom l) (rest held line (begun ++ (b ∷ [])) (holds-full held line begun b h l) ∙ longer))
+    (λ l. rw (lt-ltb held lineRoom l) (rest (held + 1) (set line held b) (begun ++ (b ∷ [])) (holds-more lineRoom held line begun b h l) ∙ longer))
+    (λ l. rw (le-ltb held lineRoom l) (rest held line (begun ++ (b ∷ [])) (holds-full lineRoom held line begun b h l) ∙ longer))
     (below-or held lineRoom))
 
-read-all : (bytes : List ℕ) (answer : LineAnswer) (rows : Rows) (held : ℕ) (line begun : List ℕ) → Holds held line begun → Read bytes answer rows held line begun
+read-all : (bytes : List ℕ) (answer : LineAnswer) (rows : Rows) (held : ℕ) (line begun : List ℕ) → Holds lineRoom held line begun → Read bytes answer rows held line begun
 read-all [] (LineAnswer.Refused why) rows held line begun h = read-refused [] why rows held line begun
 read-all [] (LineAnswer.Next reading) rows held line begun h = read-end reading rows held line begun h
 read-all (b ∷ bytes) (LineAnswer.Refused why) rows held line begun h = read-refused (b ∷ bytes) why rows held line begun
@@ -194,7 +139,7 @@ read-all (b ∷ bytes) (LineAnswer.Next reading) rows held line begun h =
     ⊎-elim
     (λ t.
     read-lf bytes reading rows held line begun b (eqb-true b lf t) h
-    (read-all bytes (readLine reading rows begun .answer) (readLine reading rows begun .rows) 0 line [] (holds-none line (h .room))))
+    (read-all bytes (readLine reading rows begun .answer) (readLine reading rows begun .rows) 0 line [] (holds-none lineRoom line (h .fits))))
     (λ t. read-byte bytes reading rows held line begun b (eqb-false b lf t) h (λ held line begun h. read-all bytes (LineAnswer.Next reading) rows held line begun h))
     (either (eqb b lf))
 
@@ -203,8 +148,8 @@ pub whole : (reading : Reading) (rows : Rows) (line bytes : List ℕ) → lineRo
     → finish (feedAll (record { progress = record { answer = LineAnswer.Next reading; rows = rows }; held = 0; line = line }) bytes) ≡ readOutput reading rows bytes
 unfolding readOutput readLines linesOf
 whole reading rows line bytes h =
-    read-all bytes (LineAnswer.Next reading) rows 0 line [] (holds-none line h)
-    ∙ ap (λ ls. foldl step (record { answer = LineAnswer.Next reading; rows = rows }) (withoutEmptyLast ls)) (prefixed-none bytes)
+    read-all bytes (LineAnswer.Next reading) rows 0 line [] (holds-none lineRoom line h)
+    ∙ ap (foldl step (record { answer = LineAnswer.Next reading; rows = rows })) (ahead-first bytes)
 
 -- ---- the calls: fed from the start in any pieces, with room for a line and for the rows
 

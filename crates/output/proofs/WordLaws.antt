@@ -1,77 +1,27 @@
--- Laws of words: a text is cut at its first separator, and what the bytes of a word say as a number.
+-- Laws of words: what the bytes of a word say as a number.
 -- Assumes nothing.
 use mathlib.Core.Path.{_≡_, refl, sym, ap, ap₂, _∙_}
 use mathlib.Core.Logic.{⊎-elim}
 use mathlib.Core.Bool.{Bool, true, false, cond, not}
-use mathlib.Core.List.{List, [], _∷_}
-use Prim.Native.Nat.{ℕ, suc, _+_, _-_, _*_, _^_, _≤_, _<_}
+use mathlib.Core.List.{List}
+use Prim.Native.Nat.{ℕ, suc, _+_, _-_, _≤_, _<_}
 use native.Mathlib.Omega.{arith}
-use native.Mathlib.Numerals.{add-one}
-use native.Mathlib.Nat.{pow-suc, pow-le-pow-right}
-use borrow.Author.Tests.{eq-eqb, ne-eqb, eqb-true, eqb-false, le-leb, lt-leb, lt-ltb, le-ltb}
-use lib.Dec.{eqb, leb, lit≤}
-use mir.Syntax.{w64}
-use mir.Val.{Fits}
-use lib.ListN.{length, take, drop, length-drop, drop-of-length-le, List·getD-eq-default}
-use lib.Seq.{drop-cons, take-all}
+use borrow.Author.Tests.{eq-eqb, ne-eqb, eqb-true, eqb-false, lt-ltb, le-ltb}
+use lib.Dec.{eqb}
+use lib.ListN.{length, take, drop, length-drop}
 use Rattle.rules.specs.Counting.{first}
 use Rattle.rules.specs.Limits.{maxDigits}
 use Rattle.rules.specs.File.{byte}
-use Rattle.rules.specs.Text.{space, dash, digit0}
-use Rattle.rules.specs.Lines.{onto, pieces, isDigit, isNegative, signBytes, digits, reach, isNumber, valueFrom, variableOf}
+use Rattle.rules.specs.Text.{dash, digit0}
+use Rattle.rules.specs.Lines.{isDigit, isNegative, signBytes, digits, reach, isNumber, valueFrom, variableOf}
 use Rattle.rules.proofs.Bools.{either, clash, below-or, below-suc}
 use Rattle.rules.proofs.Counting.{first-at, first-none, first-is}
-use Rattle.output.specs.Words.{lengthUntil, piecesBehind, EndsAt, digitRun, wordOf}
+use Rattle.bytes.specs.Words.{mostDigits}
+use Rattle.bytes.proofs.WordLaws.{byte-past, from}
+use Rattle.output.specs.Words.{digitRun, wordOf}
 use Rattle.output.specs.declared.words.Word.the-variants.{Number, Broken}
 
--- ---- where a word ends
-
-until-le : (separator : ℕ) (s : List ℕ) → lengthUntil separator s ≤ length s
-unfolding lengthUntil
-until-le separator [] = omega arith
-until-le separator (b ∷ s) =
-    ⊎-elim (λ t. rw t (omega arith)) (λ t. rw t (omega (arith, until-le separator s))) (either (eqb b separator))
-
--- the first piece stands before the first separator
-pub pieces-cut : (separator : ℕ) (s : List ℕ)
-    → pieces separator s ≡ take (lengthUntil separator s) s ∷ piecesBehind separator (drop (lengthUntil separator s) s)
-unfolding pieces lengthUntil piecesBehind
-pieces-cut separator [] = refl
-pieces-cut separator (b ∷ s) =
-    ⊎-elim (λ t. rw t refl) (λ t. rw t (ap (onto b) (pieces-cut separator s))) (either (eqb b separator))
-
--- at the end, at a separator, and before another byte
-until-end : (separator : ℕ) (s : List ℕ) (i : ℕ) → length s ≤ i → lengthUntil separator (drop i s) ≡ 0
-unfolding lengthUntil
-until-end separator s i h = rw (drop-of-length-le s h)
-
-until-here : (separator : ℕ) (s : List ℕ) (i : ℕ) → i < length s → byte s i ≡ separator → lengthUntil separator (drop i s) ≡ 0
-unfolding lengthUntil
-until-here separator s i h e = rw (drop-cons s i 0 h, eq-eqb _ _ e)
-
-until-on : (separator : ℕ) (s : List ℕ) (i : ℕ) → i < length s → (byte s i ≡ separator → ⊥)
-    → lengthUntil separator (drop i s) ≡ suc (lengthUntil separator (drop (i + 1) s))
-unfolding lengthUntil
-until-on separator s i h e = rw (add-one i, drop-cons s i 0 h, ne-eqb _ _ e)
-
--- the three laws of the loop that looks for the end
-pub ends-here : (line : List ℕ) (at i : ℕ) → at ≤ i → i < length line → byte line i ≡ space
-    → i + lengthUntil space (drop i line) ≡ at + lengthUntil space (drop at line) → EndsAt line at i
-ends-here line at i b h e k = record { behind = b; within = omega arith; is = omega (arith, until-here space line i h e) }
-
-pub ends-last : (line : List ℕ) (at i : ℕ) → at ≤ i → i ≤ length line → length line ≤ i
-    → i + lengthUntil space (drop i line) ≡ at + lengthUntil space (drop at line) → EndsAt line at i
-ends-last line at i b w h k = record { behind = b; within = w; is = omega (arith, until-end space line i h) }
-
-pub ends-on : (line : List ℕ) (at i : ℕ) → i < length line → (byte line i ≡ space → ⊥)
-    → i + lengthUntil space (drop i line) ≡ at + lengthUntil space (drop at line)
-    → i + 1 + lengthUntil space (drop (i + 1) line) ≡ at + lengthUntil space (drop at line)
-ends-on line at i h e k = omega (arith, until-on space line i h e)
-
 -- ---- what the bytes say
-
-pub byte-past : (s : List ℕ) (i : ℕ) → length s ≤ i → 0 ≡ byte s i
-byte-past s i h = sym (List·getD-eq-default s 0 h)
 
 -- a byte that is not 0 is there
 pub there : (s : List ℕ) (i b : ℕ) → byte s i ≡ suc b → i < length s
@@ -85,12 +35,6 @@ sign-there w b r e = there w 0 44 (sym r ∙ e)
 
 pub sign-not : (w : List ℕ) (b : ℕ) → b ≡ byte w 0 → (b ≡ dash → ⊥) → 0 ≡ signBytes w
 sign-not w b r e = rw (ne-eqb (byte w 0) dash (λ f. e (r ∙ f)))
-
-pub below-digits : (b : ℕ) → b < digit0 → false ≡ isDigit b
-below-digits b h = rw (lt-leb digit0 b h)
-
-pub above-digit0 : (b : ℕ) → digit0 ≤ b → leb b (digit0 + 9) ≡ isDigit b
-above-digit0 b h = rw (le-leb digit0 b h)
 
 -- the run of digits ends after six, at another byte, or with the text
 abbrev pub AllDigits : List ℕ → ℕ → Type 0
@@ -130,35 +74,7 @@ signed-is : (b : Bool) → eqb (cond b 1 0) 1 ≡ b
 signed-is true = refl
 signed-is false = refl
 
--- ---- the value of digits
-
--- one byte more is worth a factor 256 at most
-room : (i n m : ℕ) → i < n → n ≤ maxDigits → m < 256 ^ i → 10 * m + 256 < 2 ^ 64
-room i n m h l b = let most : 256 ^ i ≤ 256 ^ 5 = pow-le-pow-right (lit≤ tt) {i = i} {j = 5} (omega arith) in omega arith
-
-pub room-tenfold : (i n m : ℕ) → i < n → n ≤ maxDigits → m < 256 ^ i → Fits w64 (10 * m)
-room-tenfold i n m h l b = record { fits = omega (arith, room i n m h l b) }
-
-pub room-next : (i n m w : ℕ) → i < n → n ≤ maxDigits → m < 256 ^ i → w < 256 → Fits w64 (10 * m + w)
-room-next i n m w h l b k = record { fits = omega (arith, room i n m h l b) }
-
-pub value-grows : (i m w : ℕ) → m < 256 ^ i → w < 256 → 10 * m + w < 256 ^ (i + 1)
-value-grows i m w h l = rw (add-one i, pow-suc 256 i) (omega arith)
-
-pub value-on : (s : List ℕ) (i m w n : ℕ) → i < length s → w ≡ byte s i - digit0 → valueFrom m (drop i s) ≡ n
-    → valueFrom (10 * m + w) (drop (i + 1) s) ≡ n
-unfolding valueFrom
-value-on s i m w n h e k = rw (add-one i, e) (rw (drop-cons s i 0 h) at k)
-
-pub value-done : (s : List ℕ) (i m n : ℕ) → length s ≤ i → valueFrom m (drop i s) ≡ n → m ≡ n
-unfolding valueFrom
-value-done s i m n h k = rw (drop-of-length-le s h) at k
-
 -- ---- a word
-
--- a text from a place on, as a lent part of it has it
-pub from : (s : List ℕ) (i : ℕ) → take (length s - i) (drop i s) ≡ drop i s
-from s i = take-all (length s - i) (drop i s) (omega (arith, length-drop i s))
 
 digits-are : (w : List ℕ) (sign : ℕ) → sign ≡ signBytes w → take (length w - sign) (drop sign w) ≡ digits w
 digits-are w sign e = from w sign ∙ ap (λ k. drop k w) e
@@ -194,7 +110,7 @@ unfolding wordOf isNumber
 broken-bare w sign reached e r l h = rw (eq-eqb (reach w) (length w) (sym r ∙ l), le-ltb (signBytes w) (reach w) (omega (arith, e, r))) (ap Broken r)
 
 pub few-digits : (w : List ℕ) (sign reached : ℕ) → sign ≡ signBytes w → reached ≡ reach w → reached ≡ length w → sign < reached
-    → length (take (length w - sign) (drop sign w)) ≤ maxDigits
+    → length (take (length w - sign) (drop sign w)) ≤ mostDigits
 few-digits w sign reached e r l h =
     let long : length (take (length w - sign) (drop sign w)) ≡ length w - sign = ap length (from w sign) ∙ length-drop sign w in
     ⊎-elim

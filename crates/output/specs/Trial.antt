@@ -11,7 +11,7 @@ use Rattle.rules.specs.Rows.{withVariable}
 use Rattle.rules.specs.Lines.{isNumber, isNegative, variableOf, Scan, scanPiece}
 use Rattle.rules.specs.declared.Verdict.{Verdict}
 use Rattle.rules.specs.declared.Verdict.the-variants.{Accepted, Refused}
-use Rattle.output.specs.Words.{piecesBehind}
+use Rattle.bytes.specs.Words.{piecesBehind}
 use Rattle.output.specs.declared.numbers.Piece.{Piece}
 use Rattle.output.specs.declared.numbers.Tried.{Tried}
 

@@ -1,34 +1,15 @@
--- Words of a line: where one ends, what its bytes say, and the pieces that are left behind it.
+-- Words of a line: what their bytes say.
 -- Assumes nothing.
-use Prim.Native.Nat.{ℕ, suc, _+_, _≤_, min}
+use Prim.Native.Nat.{ℕ, min}
 use mathlib.Core.Bool.{cond, not}
-use mathlib.Core.Path.{_≡_}
-use mathlib.Core.List.{List, [], _∷_}
-use lib.Dec.{eqb}
-use lib.ListN.{length, drop}
+use mathlib.Core.List.{List}
+use lib.ListN.{length}
 use Rattle.rules.specs.Counting.{first}
 use Rattle.rules.specs.Limits.{maxDigits}
 use Rattle.rules.specs.File.{byte}
-use Rattle.rules.specs.Text.{space}
-use Rattle.rules.specs.Lines.{pieces, isDigit, isNegative, reach, isNumber, variableOf}
+use Rattle.rules.specs.Lines.{isDigit, isNegative, reach, isNumber, variableOf}
 use Rattle.output.specs.declared.words.Word.{Word}
 use Rattle.output.specs.declared.words.Word.the-variants.{Number, Broken}
-
--- how many bytes stand before the first separator, or before the end
-unfoldable pub lengthUntil : (separator : ℕ) → List ℕ → ℕ
-lengthUntil separator [] = 0
-lengthUntil separator (b ∷ s) = cond (eqb b separator) 0 (suc (lengthUntil separator s))
-
--- the pieces behind the separator that a text begins with; an empty text has none
-unfoldable pub piecesBehind : (separator : ℕ) → List ℕ → List (List ℕ)
-piecesBehind separator [] = []
-piecesBehind separator (b ∷ s) = pieces separator s
-
--- the word of a line that begins at a place ends here
-pub record EndsAt (line : List ℕ) (at end : ℕ) : Type 0 where
-  pub behind : at ≤ end
-  pub within : end ≤ length line
-  pub is : end ≡ at + lengthUntil space (drop at line)
 
 -- how many digits a text begins with, six at most
 unfoldable pub digitRun : List ℕ → ℕ

@@ -67,7 +67,7 @@ fn try_numbers(highest: usize, given: &mut [u64], line: &[u8]) -> Tried
     let mut gap = 1;
     while gap < line.len() {
         let at = gap + 1;
-        let end = words::word_end(line, at);
+        let end = bytes::words::word_end(line, at);
         match take_piece(highest, closed, given, &line[at..end], at) {
             Piece::Refused(why) => {
                 return Tried::Stopped(why, gap);
@@ -111,7 +111,7 @@ fn write_numbers(row: &mut [u64], line: &[u8], stop: usize, signs: bool)
     let mut gap = 1;
     while gap < stop {
         let at = gap + 1;
-        let end = words::word_end(line, at);
+        let end = bytes::words::word_end(line, at);
         write_word(row, &line[at..end], signs);
         gap = end;
     }

@@ -1,12 +1,13 @@
 // Comments and status lines.
 use crate::words;
+use bytes::texts;
 use rules::LineAnswer;
 use rules::Phase;
 use rules::Reading;
 use rules::Refusal;
 ghost use mathlib.Core.Path.{_≡_};
 ghost use Prim.Native.Nat.{max};
-ghost use Rattle.rules.specs.Lines.{comment, status, agree, same, awaitsStatus};
+ghost use Rattle.rules.specs.Lines.{comment, status, awaitsStatus};
 ghost use Rattle.output.specs.Line.{answerTo};
 
 // A comment is skipped.
@@ -31,33 +32,6 @@ fn awaits_status(phase: Phase) -> bool
     }
 }
 
-// How many first bytes a line and a text share.
-fn shared(line: &[u8], text: &[u8]) -> usize
-    ensures { λ r. ⌜ r ≡ agree (now (line .entry)) (now (text .entry)) ⌝ }
-{
-    let mut i = 0;
-    while i < line.len() {
-        if text.len() <= i {
-            return i;
-        }
-        if line[i] != text[i] {
-            return i;
-        }
-        i += 1;
-    }
-    i
-}
-
-fn is_same(line: &[u8], text: &[u8]) -> bool
-    ensures { λ r. ⌜ r ≡ same (now (line .entry)) (now (text .entry)) ⌝ }
-{
-    let both = shared(line, text);
-    if both != line.len() {
-        return false;
-    }
-    both == text.len()
-}
-
 fn larger(a: usize, b: usize) -> usize
     ensures { λ r. ⌜ r ≡ max a b ⌝ }
 {
@@ -79,27 +53,30 @@ pub fn status_line(reading: Reading, line: &[u8]) -> LineAnswer
     let satisfiable = b"s SATISFIABLE";
     let unsatisfiable = b"s UNSATISFIABLE";
     let unknown = b"s UNKNOWN";
-    if is_same(line, satisfiable) {
+    if texts::is_same(line, satisfiable) {
         return LineAnswer::Next(Reading {
             highest,
             phase: Phase::ModelOpen,
         });
     }
-    if is_same(line, unsatisfiable) {
+    if texts::is_same(line, unsatisfiable) {
         return LineAnswer::Next(Reading {
             highest,
             phase: Phase::SaidUnsatisfiable,
         });
     }
-    if is_same(line, unknown) {
+    if texts::is_same(line, unknown) {
         return LineAnswer::Next(Reading {
             highest,
             phase: Phase::SaidUnknown,
         });
     }
     let reached = larger(
-        shared(line, satisfiable),
-        larger(shared(line, unsatisfiable), shared(line, unknown)),
+        texts::shared(line, satisfiable),
+        larger(
+            texts::shared(line, unsatisfiable),
+            texts::shared(line, unknown),
+        ),
     );
     LineAnswer::Refused(Refusal::Grammar(reached))
 }

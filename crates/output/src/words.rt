@@ -1,14 +1,14 @@
 // Words of a solver's line: what stands between spaces, read as a number.
 ghost use mathlib.Core.Path.{_≡_};
 ghost use mathlib.Core.Bool.{_||_};
-ghost use Prim.Native.Nat.{_≤_, _<_, _-_};
+ghost use Prim.Native.Nat.{_≤_};
 ghost use lib.Dec.{eqb};
 ghost use lib.ListN.{length};
 ghost use Rattle.rules.specs.Limits.{maxDigits};
 ghost use Rattle.rules.specs.File.{byte};
-ghost use Rattle.rules.specs.Text.{space, digit0};
-ghost use Rattle.rules.specs.Lines.{isDigit, signBytes, reach, valueFrom};
-ghost use Rattle.output.specs.Words.{EndsAt, digitRun, wordOf};
+ghost use Rattle.rules.specs.Text.{space};
+ghost use Rattle.rules.specs.Lines.{signBytes, reach};
+ghost use Rattle.output.specs.Words.{digitRun, wordOf};
 
 const MAX_DIGITS: usize = 6;
 
@@ -16,21 +16,6 @@ const MAX_DIGITS: usize = 6;
 pub enum Word {
     Number(usize, bool),
     Broken(usize),
-}
-
-// Where the word that begins at `at` ends: at the next space, or with the line.
-pub fn word_end(line: &[u8], at: usize) -> usize
-    requires { ⌜ at ≤ length (now line) ⌝ }
-    ensures { λ r. ⌜ EndsAt (now (line .entry)) at r ⌝ }
-{
-    let mut end = at;
-    while end < line.len() {
-        if line[end] == b' ' {
-            return end;
-        }
-        end += 1;
-    }
-    end
 }
 
 // Whether a line's first byte is all of it, or a space follows.
@@ -53,15 +38,6 @@ fn sign_bytes(word: &[u8]) -> usize
     0
 }
 
-fn is_digit(b: u8) -> bool
-    ensures { λ r. ⌜ r ≡ isDigit b ⌝ }
-{
-    if b < b'0' {
-        return false;
-    }
-    b <= b'9'
-}
-
 // How many digits the bytes begin with, six at most.
 fn digit_run(bytes: &[u8]) -> usize
     ensures { λ r. ⌜ (r ≡ digitRun (now (bytes .entry))) × (r ≤ maxDigits) ⌝ }
@@ -71,7 +47,7 @@ fn digit_run(bytes: &[u8]) -> usize
         if i == MAX_DIGITS {
             return i;
         }
-        if !is_digit(bytes[i]) {
+        if !bytes::words::is_digit(bytes[i]) {
             return i;
         }
         i += 1;
@@ -91,30 +67,6 @@ fn reach_of(word: &[u8]) -> usize
     sign + digit_run(digits)
 }
 
-// What a byte is worth as a digit.
-fn worth(b: u8) -> usize
-    ensures { λ r. ⌜ (r ≡ b - digit0) × (r < 256) ⌝ }
-{
-    if b < b'0' {
-        return 0;
-    }
-    (b - b'0') as usize
-}
-
-// The value of at most six digits.
-fn value(digits: &[u8]) -> usize
-    requires { ⌜ length (now digits) ≤ maxDigits ⌝ }
-    ensures { λ r. ⌜ r ≡ valueFrom 0 (now (digits .entry)) ⌝ }
-{
-    let mut sum = 0;
-    let mut i = 0;
-    while i < digits.len() {
-        sum = 10 * sum + worth(digits[i]);
-        i += 1;
-    }
-    sum
-}
-
 // A word as a number.
 pub fn word_of(word: &[u8]) -> Word
     ensures { λ r. ⌜ r ≡ wordOf (now (word .entry)) ⌝ }
@@ -127,5 +79,5 @@ pub fn word_of(word: &[u8]) -> Word
     if reached <= sign {
         return Word::Broken(reached);
     }
-    Word::Number(value(&word[sign..]), sign == 1)
+    Word::Number(bytes::words::value(&word[sign..]), sign == 1)
 }

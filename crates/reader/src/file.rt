@@ -16,8 +16,8 @@ ghost use Rattle.rules.specs.Answers.{judge};
 ghost use Rattle.rules.specs.File.{fileVerdict};
 ghost use Rattle.reader.specs.Bodies.{bodiesRules};
 
-// Refusals 3 to 7, of four bodies.
-pub(crate) fn bodies_verdict(sizes: &[u8], start: &[u8], goal: &[u8], actions: &[u8]) -> Verdict
+// Refusals 3 to 7, of four bodies. It is an inner function: the reader of the translator's text judges the bodies that it kept by it too.
+pub fn bodies_verdict(sizes: &[u8], start: &[u8], goal: &[u8], actions: &[u8]) -> Verdict
     ensures { λ r. ⌜ r ≡ judge (bodiesRules (now (sizes .entry)) (now (start .entry)) (now (goal .entry)) (now (actions .entry))) ⌝ }
 {
     let n = sizes.len();

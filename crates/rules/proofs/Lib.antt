@@ -18,6 +18,7 @@ pub mod Places
 pub mod Pairs
 pub mod ByNumber
 pub mod Decimal
+pub mod Cut
 pub mod Spoken
 pub mod Bounds
 pub mod Lowest

@@ -1,1 +1,9 @@
 -- What is proved of the reader of the translator's text.
+pub mod KeepLaws
+pub mod LineLaws
+pub mod PositionLaws
+pub mod Stack
+pub mod Stages
+pub mod Simulated
+pub mod InPieces
+pub mod WholeText

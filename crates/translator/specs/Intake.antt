@@ -1,10 +1,11 @@
 -- A text taken in: a line at a time, and in pieces of any length. The first bytes of a line are held, one more than any line has whose rest matters.
 -- Assumes nothing.
-use Prim.Native.Nat.{ℕ, _+_, _*_, _-_, _^_, min}
+use Prim.Native.Nat.{ℕ, _+_, _*_, _-_, _^_, _≤_, _<_, min}
+use mathlib.Core.Path.{_≡_}
 use mathlib.Core.Bool.{Bool, cond, _&&_}
 use mathlib.Core.List.{List, [], _∷_, _++_, foldl}
 use lib.Dec.{leb, ltb, eqb}
-use lib.ListN.{length, take, drop, set}
+use lib.ListN.{length, getD, take, drop, set}
 use Rattle.rules.specs.Limits.{maxVariables, maxGoals, maxActions, maxPairs, maxAction, pairBytes}
 use Rattle.rules.specs.Answers.{judge, demand, inTurn}
 use Rattle.rules.specs.Task.{Pair}
@@ -12,6 +13,7 @@ use Rattle.rules.specs.Text.{lf}
 use Rattle.rules.specs.Calls.{roomRule, lentAfter}
 use Rattle.rules.specs.Format.{shapeOf}
 use Rattle.rules.specs.Translation.{isEnd}
+use Rattle.rules.specs.declared.Refusal.{Refusal}
 use Rattle.rules.specs.declared.Refusal.the-variants.{Room, BodyLength, ActionAtFault, AgainstFormat}
 use Rattle.rules.specs.declared.Verdict.{Verdict}
 use Rattle.rules.specs.declared.Verdict.the-variants.{Accepted, Refused}
@@ -23,7 +25,7 @@ use Rattle.textlines.specs.Says.{saysAs}
 use Rattle.textlines.specs.declared.OldValue.{OldValue}
 use Rattle.textlines.specs.declared.Numbers.{Numbers}
 use Rattle.textlines.specs.declared.Said.{Said}
-use Rattle.bodies.specs.Keeping.{Keeping, keeps, nothingKept, goalRoom, actionsRoom, keepSize, keepStart, keepGoal, keepPrecondition, keepEffect, keepAction}
+use Rattle.bodies.specs.Keeping.{Keeping, keeps, nothingKept, Sound, goalRoom, actionsRoom, keepSize, keepStart, keepGoal, keepPrecondition, keepEffect, keepAction}
 use Rattle.bodies.specs.declared.Kept.{Kept}
 use Rattle.bodies.specs.declared.Excess.{Excess}
 use Rattle.bodies.specs.declared.Excess.the-variants.{Within, Lengths, Actions}
@@ -42,6 +44,13 @@ pub record Memory : Type 0 where
 
 abbrev pub memory : (sizes start goal actions : List ℕ) → Memory
 memory sizes start goal actions = record { sizes = sizes; start = start; goal = goal; actions = actions }
+
+-- room for each body at its limit
+pub record Lent (m : Memory) : Type 0 where
+  pub sizes : maxVariables ≤ length (m .sizes)
+  pub start : maxVariables ≤ length (m .start)
+  pub goal : goalRoom ≤ length (m .goal)
+  pub actions : actionsRoom ≤ length (m .actions)
 
 -- what is kept, and where
 pub record KeptBodies : Type 0 where
@@ -81,6 +90,9 @@ abbrev pub keepOld : ℕ → OldValue → Keeping → Keeping
 keepOld variable OldValue.Any k = k
 keepOld variable (OldValue.Is value) k = keepPrecondition (pairOf variable value) k
 
+abbrev pub effectKept : Numbers → Keeping → Keeping
+effectKept said k = keepEffect (pairOf (said .first) (said .second)) (keepOld (said .first) (said .old) k)
+
 abbrev pub keepNumbers : FormatLine → Numbers → KeptBodies → KeptBodies
 keepNumbers BeginVersion said k = k
 keepNumbers Version said k = k
@@ -113,7 +125,7 @@ keepNumbers OperatorName said k = k
 keepNumbers PrevailCount said k = k
 keepNumbers PrevailCondition said k = inActions (keepPrecondition (pairOf (said .first) (said .second))) k
 keepNumbers EffectCount said k = k
-keepNumbers Effect said k = inActions (λ a. keepEffect (pairOf (said .first) (said .second)) (keepOld (said .first) (said .old) a)) k
+keepNumbers Effect said k = inActions (effectKept said) k
 keepNumbers Cost said k = inActions keepAction k
 keepNumbers EndOperator said k = k
 keepNumbers AxiomCount said k = k
@@ -131,6 +143,10 @@ mostLines = 2 ^ 64 - 1
 abbrev pub oneMore : ℕ → ℕ
 oneMore lines = min (lines + 1) mostLines
 
+-- how many bytes of a line are held
+abbrev pub headRoom : ℕ
+headRoom = 32
+
 -- how far a reading is, and all that is lent to it
 pub record Taken : Type 0 where
   pub intake : Intake
@@ -140,14 +156,27 @@ pub record Taken : Type 0 where
 abbrev pub taken : Intake → Memory → List ℕ → Taken
 taken intake m line = record { intake = intake; memory = m; line = line }
 
+-- a line that was in order has been read, and so much is kept
+abbrev pub readOn : (due : FormatLine) → Numbers → Intake → Kept → Intake
+readOn due said i kept =
+    record { position = movedOn due (said .first) (i .position); lines = oneMore (i .lines); verdict = Accepted; kept = kept; held = 0 }
+
+-- a line that was against the rules ends the reading
+abbrev pub stoppedFor : Refusal → Intake → Intake
+stoppedFor why i = record { position = i .position; lines = i .lines; verdict = Refused why; kept = i .kept; held = 0 }
+
 abbrev pub afterLine : Said → (due : FormatLine) → Intake → Memory → List ℕ → Taken
 afterLine (Said.Says said) due i m line =
     let k : KeptBodies = keepLine due said (keptIn (i .kept) m) in
-    taken
-    (record { position = movedOn due (said .first) (i .position); lines = oneMore (i .lines); verdict = Accepted; kept = k .kept; held = 0 })
-    (k .memory) line
-afterLine (Said.Refused why) due i m line =
-    taken (record { position = i .position; lines = i .lines; verdict = Refused why; kept = i .kept; held = 0 }) m line
+    taken (readOn due said i (k .kept)) (k .memory) line
+afterLine (Said.Refused why) due i m line = taken (stoppedFor why i) m line
+
+-- what a reading needs: counts within their limits, and room
+pub record Ready (t : Taken) : Type 0 where
+  pub kept : Sound (t .intake .kept)
+  pub held : t .intake .held ≤ headRoom
+  pub lent : Lent (t .memory)
+  pub line : headRoom ≤ length (t .line)
 
 -- the first fault ends the reading
 abbrev pub unlessRefused : Verdict → Taken → Taken → Taken
@@ -164,10 +193,6 @@ endLine t =
 
 -- ---- bytes
 
--- how many bytes of a line are held
-abbrev pub headRoom : ℕ
-headRoom = 32
-
 abbrev pub withHeld : ℕ → Intake → Intake
 withHeld held i = record { position = i .position; lines = i .lines; verdict = i .verdict; kept = i .kept; held = held }
 
@@ -181,12 +206,23 @@ takeByte t b =
 unfoldable pub takeAll : Taken → List ℕ → Taken
 takeAll t bytes = foldl takeByte t bytes
 
+-- bytes from a place on that are held, up to an LF or the end: what is left comes to the same
+pub record HeldUpTo (bytes : List ℕ) (at held : ℕ) (line : List ℕ) (end heldThen : ℕ) (lineThen : List ℕ) : Type 0 where
+  pub within : end ≤ length bytes
+  pub ends : end < length bytes → getD bytes end 0 ≡ lf
+  pub fits : heldThen ≤ headRoom
+  pub rest : (i : Intake) (m : Memory) → i .verdict ≡ Accepted
+      → takeAll (taken (withHeld heldThen i) m lineThen) (drop end bytes) ≡ takeAll (taken (withHeld held i) m line) (drop at bytes)
+
 -- ---- the calls: a reading that asks for more than there can be is refused for room
+
+unfoldable pub actionsFit : (actions bytes : ℕ) → Bool
+actionsFit actions bytes = leb actions maxActions && leb bytes (maxAction * actions)
 
 unfoldable pub countsFit : Kept → Bool
 countsFit k =
-    leb (k .sizes) maxVariables && leb (k .starts) maxVariables && leb (k .goals) maxGoals && leb (k .actions) maxActions
-    && leb (k .bytes) (maxAction * k .actions) && leb (k .preconditions) maxPairs && leb (k .effects) maxPairs
+    leb (k .sizes) maxVariables && leb (k .starts) maxVariables && leb (k .goals) maxGoals && actionsFit (k .actions) (k .bytes)
+    && leb (k .preconditions) maxPairs && leb (k .effects) maxPairs
 
 unfoldable pub lentFits : (sizes start goal actions line : ℕ) → Bool
 lentFits sizes start goal actions line =

@@ -73,6 +73,10 @@ repeated line m p = record { line = line; inner = m; outer = p .outer; variables
 abbrev pub rounds : FormatLine → ℕ → Position → Position
 rounds line m p = record { line = line; inner = p .inner; outer = m; variables = p .variables }
 
+-- so many variables are due, and later as many start values
+abbrev pub ofVariables : ℕ → Position → Position
+ofVariables m p = record { line = BeginVariable; inner = p .inner; outer = m; variables = m }
+
 -- the position behind a line that was due, which said the number m
 unfoldable pub movedOn : FormatLine → (m : ℕ) → Position → Position
 movedOn BeginVersion m p = to Version p
@@ -81,7 +85,7 @@ movedOn EndVersion m p = to BeginMetric p
 movedOn BeginMetric m p = to Metric p
 movedOn Metric m p = to EndMetric p
 movedOn EndMetric m p = to VariableCount p
-movedOn VariableCount m p = record { line = BeginVariable; inner = p .inner; outer = m; variables = m }
+movedOn VariableCount m p = ofVariables m p
 movedOn BeginVariable m p = to VariableName p
 movedOn VariableName m p = to AxiomLayer p
 movedOn AxiomLayer m p = to Range p

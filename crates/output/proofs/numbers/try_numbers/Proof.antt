@@ -6,7 +6,7 @@ use Prim.Native.Nat.{_-_}
 use borrow.Author.Needs.{needs}
 use lib.ListN.{length, drop}
 use Rattle.rules.specs.Text.{space}
-use Rattle.output.specs.Words.{piecesBehind}
+use Rattle.bytes.specs.Words.{piecesBehind}
 use Rattle.output.specs.Trial.{trial, firstGap, numberPieces}
 use Rattle.output.proofs.TrialLaws.{tried-start, tried-stopped, tried-on, tried-through}
 use Rattle.output.proofs.numbers.try_numbers.Statement.{statement}

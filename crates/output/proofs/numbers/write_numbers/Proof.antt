@@ -5,7 +5,7 @@ use Prim.Native.Nat.{_-_}
 use borrow.Author.Needs.{needs}
 use lib.ListN.{length, drop}
 use Rattle.rules.specs.Text.{space}
-use Rattle.output.specs.Words.{piecesBehind}
+use Rattle.bytes.specs.Words.{piecesBehind}
 use Rattle.output.specs.Trial.{rewritten, firstGap, numberPieces}
 use Rattle.output.proofs.TrialLaws.{writes-start, writes-on, writes-done}
 use Rattle.output.proofs.numbers.write_numbers.Statement.{statement}
