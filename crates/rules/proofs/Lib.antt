@@ -38,5 +38,6 @@ pub mod Demands
 pub mod Proved
 pub mod InRows
 pub mod AtCalls
+pub mod LinesInOrder
 pub mod Translated
 pub mod TranslatorRuns
