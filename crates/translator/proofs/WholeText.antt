@@ -35,7 +35,7 @@ use Rattle.bodies.specs.declared.Excess.the-variants.{Within, Lengths, Actions}
 use Rattle.bodies.proofs.States.{before-nothing, states-begun}
 use Rattle.bodies.proofs.Verdicts.{taskVerdict, verdict-within, bodies-within, verdict-lengths, verdict-actions}
 use Rattle.translator.specs.Position.{firstPosition, lineDue}
-use Rattle.translator.specs.Intake.{Memory, keptIn, mostLines, oneMore, Taken, taken, afterLine, endLine, headRoom, takeByte, takeAll, countsFit, lentFits, hasRoom, takeCall, begun, lastLine, rulesKept, fileKept, verdictKept, endVerdict, translation, Ended, endWith, finishCall}
+use Rattle.translator.specs.Intake.{Memory, keptIn, mostLines, oneMore, Taken, taken, afterLine, endLine, headRoom, takeByte, takeAll, actionsFit, countsFit, lentFits, roomFor, hasRoom, takeCall, begun, lastLine, rulesKept, fileKept, verdictKept, endVerdict, translation, Ended, endWith, finishCall}
 use Rattle.translator.specs.declared.position.Position.{Position}
 use Rattle.translator.proofs.Stack.{linesDue, no-end}
 use Rattle.translator.proofs.Simulated.{unless-accepted, unless-refused, Keeps, Follows, follows-line, follows-end, Simulates, due-next, next-line}
@@ -212,7 +212,7 @@ ready-all t [] r = r
 ready-all t (b ∷ bytes) r = ready-all (takeByte t b) bytes (ready-byte t b r)
 
 ready-room : (t : Taken) → Ready t → hasRoom t ≡ true
-unfolding hasRoom countsFit lentFits
+unfolding hasRoom roomFor countsFit actionsFit lentFits
 ready-room t r =
     let k : Kept = t .intake .kept in
     let o : Sound k = r .follows .keeps .states .sound in
@@ -257,7 +257,7 @@ pub record Lent (m : Memory) (line : List ℕ) : Type 0 where
   pub held : headRoom ≤ length line
 
 pub lent-begun : (m : Memory) (line : List ℕ) → hasRoom (taken begun m line) ≡ true → Lent m line
-unfolding hasRoom lentFits
+unfolding hasRoom roomFor lentFits
 lent-begun m line h =
     let a : Bool = leb maxVariables (length (m .sizes)) in
     let b : Bool = leb maxVariables (length (m .start)) in
