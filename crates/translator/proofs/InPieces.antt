@@ -169,7 +169,8 @@ module _ (reading : TextReading) (t : Taken) (s : Simulates reading t) where
       (ap (λ u. lastLine (takeAll u bytes)) (byte-ends t b (s .verdict ∙ v) e))
       rest
 
-  read-byte : (bytes begun : List ℕ) (b : ℕ) → (b ≡ lf → ⊥) → (u : Taken) → takeByte t b ≡ u → Read bytes reading u (begun ++ (b ∷ [])) → Read (b ∷ bytes) reading t begun
+  read-byte : (bytes begun : List ℕ) (b : ℕ) → (b ≡ lf → ⊥) → (u : Taken) → takeByte t b ≡ u → Read bytes reading u (begun ++ (b ∷ []))
+      → Read (b ∷ bytes) reading t begun
   unfolding takeAll
   read-byte bytes begun b e u f rest =
       simulates-as _ (foldl step reading (linesAhead (begun ++ (b ∷ [])) bytes)) _ (lastLine (takeAll u bytes))

@@ -4,10 +4,9 @@ use mathlib.Core.Path.{_≡_, refl, sym, ap, _∙_}
 use mathlib.Core.Logic.{⊎-elim}
 use mathlib.Core.Bool.{true, false}
 use mathlib.Core.List.{List, _++_, tail}
-use Prim.Native.Nat.{ℕ, suc, _≤_, _<_}
+use Prim.Native.Nat.{ℕ, suc, _<_}
 use native.Mathlib.Omega.{arith}
-use lib.ListN.{length, take, getD}
-use Rattle.rules.specs.Limits.{maxVariables}
+use lib.ListN.{take, getD}
 use Rattle.rules.specs.Answers.{judge}
 use Rattle.rules.specs.Task.{Pair}
 use Rattle.rules.specs.Format.{Stated, noAction, withSize, withStart, withGoal, withPrecondition, withEffect, withAction, shapeOf, lineRules, lineNumber, hasOld, oldFact, newFact, factIn, linesAnnounced, stated}
@@ -20,89 +19,99 @@ use Rattle.rules.specs.declared.Verdict.the-variants.{Accepted, Refused}
 use Rattle.rules.proofs.Bools.{either}
 use Rattle.textlines.specs.Says.{numbersIn, saidBy, shapeSays, saysAs}
 use Rattle.textlines.proofs.Deciding.{decided-by-head}
-use Rattle.bodies.specs.Keeping.{keeps, goalRoom, actionsRoom, keepSize, keepStart, keepGoal, keepPrecondition, keepEffect, keepAction}
+use Rattle.bodies.specs.Keeping.{keeps, keepSize, keepStart, keepGoal, keepPrecondition, keepEffect, keepAction}
 use Rattle.bodies.proofs.KeepLengths.{length-keepSize, length-keepStart, length-keepGoal, length-keepPrecondition, length-keepEffect, length-keepAction}
 use Rattle.bodies.proofs.States.{States, BeforeOperators, states-size, states-start, states-goal, states-precondition, states-effect, states-action}
 use Rattle.translator.specs.Position.{lineDue, movedOn}
-use Rattle.translator.specs.Intake.{KeptBodies, keptIn, inSizes, inStart, inGoal, inActions, keepLine, mostLines, oneMore, Taken, afterLine, unlessRefused, endLine, headRoom}
+use Rattle.translator.specs.Intake.{Lent, KeptBodies, keptIn, inSizes, inStart, inGoal, inActions, keepLine, mostLines, oneMore, Taken, afterLine, unlessRefused, endLine, headRoom}
 use Rattle.translator.specs.declared.position.Position.{Position}
 use Rattle.translator.proofs.Stages.{stageOf, Stands, stands-next, stands-line, stands-end}
 use Rattle.translator.proofs.Stack.{linesDue, first-due, saidFirst, moved, no-end}
 
 -- ---- what is kept
 
-pub unless-accepted : (v : Verdict) (next t : Taken) → v ≡ Accepted → unlessRefused v next t ≡ next
-unless-accepted v next t e = ap (λ x. unlessRefused x next t) e
-
-pub unless-refused : (v : Verdict) (why : Refusal) (next t : Taken) → v ≡ Refused why → unlessRefused v next t ≡ t
-unless-refused v why next t e = ap (λ x. unlessRefused x next t) e
-
+-- what is kept states s, and there is room for more
 pub record Keeps (s : Stated) (k : KeptBodies) : Type 0 where
   pub states : States s (k .kept) (k .memory .sizes) (k .memory .start) (k .memory .goal) (k .memory .actions)
-  pub sizes : maxVariables ≤ length (k .memory .sizes)
-  pub start : maxVariables ≤ length (k .memory .start)
-  pub goal : goalRoom ≤ length (k .memory .goal)
-  pub actions : actionsRoom ≤ length (k .memory .actions)
+  pub lent : Lent (k .memory)
 
 module _ (s : Stated) (k : KeptBodies) (h : Keeps s k) where
   keeps-size : (m : ℕ) → BeforeOperators s → Keeps (withSize m s) (inSizes (keepSize m) k)
   keeps-size m b =
       record {
-        states = states-size s (k .kept) (k .memory .sizes) (k .memory .start) (k .memory .goal) (k .memory .actions) (h .states) m (h .sizes) b;
-        sizes = omega (arith, h .sizes, length-keepSize (k .kept) (k .memory .sizes) m);
-        start = h .start;
-        goal = h .goal;
-        actions = h .actions;
+        states = states-size s (k .kept) (k .memory .sizes) (k .memory .start) (k .memory .goal) (k .memory .actions) (h .states) m (h .lent .sizes) b;
+        lent =
+            record {
+              sizes = omega (arith, h .lent .sizes, length-keepSize (k .kept) (k .memory .sizes) m);
+              start = h .lent .start;
+              goal = h .lent .goal;
+              actions = h .lent .actions;
+            };
       }
 
   keeps-start : (m : ℕ) → BeforeOperators s → Keeps (withStart m s) (inStart (keepStart m) k)
   keeps-start m b =
       record {
-        states = states-start s (k .kept) (k .memory .sizes) (k .memory .start) (k .memory .goal) (k .memory .actions) (h .states) m (h .start) b;
-        sizes = h .sizes;
-        start = omega (arith, h .start, length-keepStart (k .kept) (k .memory .start) m);
-        goal = h .goal;
-        actions = h .actions;
+        states = states-start s (k .kept) (k .memory .sizes) (k .memory .start) (k .memory .goal) (k .memory .actions) (h .states) m (h .lent .start) b;
+        lent =
+            record {
+              sizes = h .lent .sizes;
+              start = omega (arith, h .lent .start, length-keepStart (k .kept) (k .memory .start) m);
+              goal = h .lent .goal;
+              actions = h .lent .actions;
+            };
       }
 
   keeps-goal : (p : Pair) → BeforeOperators s → Keeps (withGoal p s) (inGoal (keepGoal p) k)
   keeps-goal p b =
       record {
         states = states-goal s (k .kept) (k .memory .sizes) (k .memory .start) (k .memory .goal) (k .memory .actions) (h .states) p b;
-        sizes = h .sizes;
-        start = h .start;
-        goal = omega (arith, h .goal, length-keepGoal (k .kept) (k .memory .goal) p (h .goal));
-        actions = h .actions;
+        lent =
+            record {
+              sizes = h .lent .sizes;
+              start = h .lent .start;
+              goal = omega (arith, h .lent .goal, length-keepGoal (k .kept) (k .memory .goal) p (h .lent .goal));
+              actions = h .lent .actions;
+            };
       }
 
   keeps-precondition : (p : Pair) → Keeps (withPrecondition p s) (inActions (keepPrecondition p) k)
   keeps-precondition p =
       record {
-        states = states-precondition s (k .kept) (k .memory .sizes) (k .memory .start) (k .memory .goal) (k .memory .actions) (h .states) p (h .actions);
-        sizes = h .sizes;
-        start = h .start;
-        goal = h .goal;
-        actions = omega (arith, h .actions, length-keepPrecondition (k .kept) (k .memory .actions) (h .states .sound) (h .actions) p);
+        states = states-precondition s (k .kept) (k .memory .sizes) (k .memory .start) (k .memory .goal) (k .memory .actions) (h .states) p (h .lent .actions);
+        lent =
+            record {
+              sizes = h .lent .sizes;
+              start = h .lent .start;
+              goal = h .lent .goal;
+              actions = omega (arith, h .lent .actions, length-keepPrecondition (k .kept) (k .memory .actions) (h .states .sound) (h .lent .actions) p);
+            };
       }
 
   keeps-effect : (p : Pair) → Keeps (withEffect p s) (inActions (keepEffect p) k)
   keeps-effect p =
       record {
-        states = states-effect s (k .kept) (k .memory .sizes) (k .memory .start) (k .memory .goal) (k .memory .actions) (h .states) p (h .actions);
-        sizes = h .sizes;
-        start = h .start;
-        goal = h .goal;
-        actions = omega (arith, h .actions, length-keepEffect (k .kept) (k .memory .actions) (h .states .sound) (h .actions) p);
+        states = states-effect s (k .kept) (k .memory .sizes) (k .memory .start) (k .memory .goal) (k .memory .actions) (h .states) p (h .lent .actions);
+        lent =
+            record {
+              sizes = h .lent .sizes;
+              start = h .lent .start;
+              goal = h .lent .goal;
+              actions = omega (arith, h .lent .actions, length-keepEffect (k .kept) (k .memory .actions) (h .states .sound) (h .lent .actions) p);
+            };
       }
 
   keeps-action : Keeps (withAction s) (inActions keepAction k)
   keeps-action =
       record {
-        states = states-action s (k .kept) (k .memory .sizes) (k .memory .start) (k .memory .goal) (k .memory .actions) (h .states) (h .actions);
-        sizes = h .sizes;
-        start = h .start;
-        goal = h .goal;
-        actions = omega (arith, h .actions, length-keepAction (k .kept) (k .memory .actions) (h .states .sound) (h .actions));
+        states = states-action s (k .kept) (k .memory .sizes) (k .memory .start) (k .memory .goal) (k .memory .actions) (h .states) (h .lent .actions);
+        lent =
+            record {
+              sizes = h .lent .sizes;
+              start = h .lent .start;
+              goal = h .lent .goal;
+              actions = omega (arith, h .lent .actions, length-keepAction (k .kept) (k .memory .actions) (h .states .sound) (h .lent .actions));
+            };
       }
 
 -- an effect's old value is a precondition where there is one
@@ -119,7 +128,7 @@ keeps-old s k h text =
     (either (hasOld text))
 
 -- what a line states is kept
-pub keeps-line : (due : FormatLine) (text : List ℕ) (s : Stated) (k : KeptBodies) → Stands (stageOf due) s → Keeps s k
+keeps-line : (due : FormatLine) (text : List ℕ) (s : Stated) (k : KeptBodies) → Stands (stageOf due) s → Keeps s k
     → Keeps (stated (shapeOf due) text s) (keepLine due (numbersIn (shapeOf due) text) k)
 unfolding stated keepLine numbersIn
 keeps-line BeginVersion text s k b h = h
@@ -178,6 +187,13 @@ pub follows-end : (s : Stated) (p : Position) (k : KeptBodies) → Follows s p k
 follows-end s p k f e = stands-end (lineDue p) s e (f .stands)
 
 -- ---- the two readings
+
+-- the first fault ends a reading
+pub unless-accepted : (v : Verdict) (next t : Taken) → v ≡ Accepted → unlessRefused v next t ≡ next
+unless-accepted v next t e = ap (λ x. unlessRefused x next t) e
+
+pub unless-refused : (v : Verdict) (why : Refusal) (next t : Taken) → v ≡ Refused why → unlessRefused v next t ≡ t
+unless-refused v why next t e = ap (λ x. unlessRefused x next t) e
 
 pub record Simulates (reading : TextReading) (t : Taken) : Type 0 where
   pub verdict : t .intake .verdict ≡ reading .verdict

@@ -2,12 +2,12 @@
 -- Assumes nothing.
 use mathlib.Core.Path.{_≡_, refl, sym, ap, _∙_}
 use mathlib.Core.Logic.{⊎-elim}
-use mathlib.Core.Bool.{Bool, true, _&&_}
-use mathlib.Core.List.{List, [], _∷_, _++_, foldl}
+use mathlib.Core.Bool.{true}
+use mathlib.Core.List.{List, [], _∷_, _++_, foldl, append-nil}
 use Prim.Native.Nat.{ℕ, suc, _*_, _≤_, _<_}
 use native.Mathlib.Omega.{arith}
-use borrow.Author.Tests.{le-leb, leb-true, eqb-true, eqb-false}
-use lib.Dec.{eqb, leb}
+use borrow.Author.Tests.{le-leb, eqb-true, eqb-false}
+use lib.Dec.{eqb}
 use lib.ListN.{length, take, length-set}
 use Rattle.rules.specs.Counting.{joined}
 use Rattle.rules.specs.Limits.{maxVariables, maxGoals, maxActions, maxPairs, maxAction, contentsBytes}
@@ -23,7 +23,7 @@ use Rattle.rules.specs.declared.Refusal.{Refusal}
 use Rattle.rules.specs.declared.Refusal.the-variants.{ActionAtFault, AgainstFormat}
 use Rattle.rules.specs.declared.Verdict.{Verdict}
 use Rattle.rules.specs.declared.Verdict.the-variants.{Accepted, Refused}
-use Rattle.rules.proofs.Bools.{either, and-left, and-right, below-or}
+use Rattle.rules.proofs.Bools.{either, below-or}
 use Rattle.rules.proofs.Judging.{refused-not, judge-head, judge-append, inTurn-left, inTurn-right}
 use Rattle.rules.proofs.Cut.{lines-most, holds-none}
 use Rattle.writer.specs.Laid.{laidOut}
@@ -35,7 +35,7 @@ use Rattle.bodies.specs.declared.Excess.the-variants.{Within, Lengths, Actions}
 use Rattle.bodies.proofs.States.{before-nothing, states-begun}
 use Rattle.bodies.proofs.Verdicts.{taskVerdict, verdict-within, bodies-within, verdict-lengths, verdict-actions}
 use Rattle.translator.specs.Position.{firstPosition, lineDue}
-use Rattle.translator.specs.Intake.{Memory, keptIn, mostLines, oneMore, Taken, taken, afterLine, endLine, headRoom, takeByte, takeAll, actionsFit, countsFit, lentFits, roomFor, hasRoom, takeCall, begun, lastLine, rulesKept, fileKept, verdictKept, endVerdict, translation, Ended, endWith, finishCall}
+use Rattle.translator.specs.Intake.{Memory, keptIn, mostLines, oneMore, Taken, taken, afterLine, endLine, headRoom, takeByte, takeAll, actionsFit, countsFit, lentFits, roomFor, hasRoom, Lent, Ready, takeCall, begun, lastLine, rulesKept, fileKept, verdictKept, endVerdict, translation, Ended, endWith, finishCall}
 use Rattle.translator.specs.declared.position.Position.{Position}
 use Rattle.translator.proofs.Stack.{linesDue, no-end}
 use Rattle.translator.proofs.Simulated.{unless-accepted, unless-refused, Keeps, Follows, follows-line, follows-end, Simulates, due-next, next-line}
@@ -163,59 +163,59 @@ ends-translated text t room s l =
 
 -- ---- the calls: what is lent stays enough
 
-record Ready (t : Taken) : Type 0 where
+record Going (t : Taken) : Type 0 where
   said : Stated
   follows : Follows said (t .intake .position) (keptIn (t .intake .kept) (t .memory))
   held : t .intake .held ≤ headRoom
   line : headRoom ≤ length (t .line)
 
-ready-as : (t u : Taken) → t ≡ u → Ready u → Ready t
-ready-as t u e r = rw e r
+going-as : (t u : Taken) → t ≡ u → Going u → Going t
+going-as t u e g = rw e g
 
-ready-said : (t : Taken) (at : ℕ) (text : List ℕ) (v : Verdict) → judge (lineRules (shapeOf (lineDue (t .intake .position))) at text) ≡ v → Ready t
-    → Ready (afterLine (saidBy v (numbersIn (shapeOf (lineDue (t .intake .position))) text)) (lineDue (t .intake .position)) (t .intake) (t .memory) (t .line))
-ready-said t at text Accepted e r =
+going-said : (t : Taken) (at : ℕ) (text : List ℕ) (v : Verdict) → judge (lineRules (shapeOf (lineDue (t .intake .position))) at text) ≡ v → Going t
+    → Going (afterLine (saidBy v (numbersIn (shapeOf (lineDue (t .intake .position))) text)) (lineDue (t .intake .position)) (t .intake) (t .memory) (t .line))
+going-said t at text Accepted e g =
     let p : Position = t .intake .position in
     record {
-      said = stated (shapeOf (lineDue p)) text (r .said);
-      follows = follows-line (r .said) p (keptIn (t .intake .kept) (t .memory)) text (no-end (shapeOf (lineDue p)) at text e) (r .follows);
+      said = stated (shapeOf (lineDue p)) text (g .said);
+      follows = follows-line (g .said) p (keptIn (t .intake .kept) (t .memory)) text (no-end (shapeOf (lineDue p)) at text e) (g .follows);
       held = omega arith;
-      line = r .line;
+      line = g .line;
     }
-ready-said t at text (Refused why) e r = record { said = r .said; follows = r .follows; held = omega arith; line = r .line }
+going-said t at text (Refused why) e g = record { said = g .said; follows = g .follows; held = omega arith; line = g .line }
 
-ready-line : (t : Taken) → t .intake .verdict ≡ Accepted → Ready t → Ready (endLine t)
+going-line : (t : Taken) → t .intake .verdict ≡ Accepted → Going t → Going (endLine t)
 unfolding endLine saysAs shapeSays
-ready-line t v r =
-    ready-as _ _ (unless-accepted (t .intake .verdict) _ t v)
-    (ready-said t (oneMore (t .intake .lines)) (take (t .intake .held) (t .line)) _ refl r)
+going-line t v g =
+    going-as _ _ (unless-accepted (t .intake .verdict) _ t v)
+    (going-said t (oneMore (t .intake .lines)) (take (t .intake .held) (t .line)) _ refl g)
 
-ready-byte : (t : Taken) (b : ℕ) → Ready t → Ready (takeByte t b)
+going-byte : (t : Taken) (b : ℕ) → Going t → Going (takeByte t b)
 unfolding takeByte
-ready-byte t b r =
-    by-verdict (t .intake .verdict) (Ready (takeByte t b))
+going-byte t b g =
+    by-verdict (t .intake .verdict) (Going (takeByte t b))
     (λ v.
-    ⊎-elim (λ c. ready-as (takeByte t b) (endLine t) (byte-ends t b v (eqb-true b lf c)) (ready-line t v r))
+    ⊎-elim (λ c. going-as (takeByte t b) (endLine t) (byte-ends t b v (eqb-true b lf c)) (going-line t v g))
     (λ c.
     ⊎-elim
     (λ h.
-    ready-as (takeByte t b) _ (byte-held t b v (eqb-false b lf c) h)
-    (record { said = r .said; follows = r .follows; held = omega arith; line = omega (arith, r .line, length-set (t .line) (t .intake .held) b) }))
-    (λ h. ready-as (takeByte t b) t (byte-passed t b v (eqb-false b lf c) h) r)
+    going-as (takeByte t b) _ (byte-held t b v (eqb-false b lf c) h)
+    (record { said = g .said; follows = g .follows; held = omega arith; line = omega (arith, g .line, length-set (t .line) (t .intake .held) b) }))
+    (λ h. going-as (takeByte t b) t (byte-passed t b v (eqb-false b lf c) h) g)
     (below-or (t .intake .held) headRoom))
     (either (eqb b lf)))
-    (λ why e. ready-as (takeByte t b) t (unless-refused (t .intake .verdict) why _ t e) r)
+    (λ why e. going-as (takeByte t b) t (unless-refused (t .intake .verdict) why _ t e) g)
 
-ready-all : (t : Taken) (bytes : List ℕ) → Ready t → Ready (takeAll t bytes)
+going-all : (t : Taken) (bytes : List ℕ) → Going t → Going (takeAll t bytes)
 unfolding takeAll
-ready-all t [] r = r
-ready-all t (b ∷ bytes) r = ready-all (takeByte t b) bytes (ready-byte t b r)
+going-all t [] g = g
+going-all t (b ∷ bytes) g = going-all (takeByte t b) bytes (going-byte t b g)
 
-ready-room : (t : Taken) → Ready t → hasRoom t ≡ true
+pub ready-room : (t : Taken) → Ready t → hasRoom t ≡ true
 unfolding hasRoom roomFor countsFit actionsFit lentFits
 ready-room t r =
     let k : Kept = t .intake .kept in
-    let o : Sound k = r .follows .keeps .states .sound in
+    let o : Sound k = r .kept in
     rw (
       le-leb (k .sizes) maxVariables (o .sizes),
       le-leb (k .starts) maxVariables (o .starts),
@@ -225,83 +225,51 @@ ready-room t r =
       le-leb (k .preconditions) maxPairs (o .preconditions),
       le-leb (k .effects) maxPairs (o .effects),
       le-leb (t .intake .held) headRoom (r .held),
-      le-leb maxVariables (length (t .memory .sizes)) (r .follows .keeps .sizes),
-      le-leb maxVariables (length (t .memory .start)) (r .follows .keeps .start),
-      le-leb goalRoom (length (t .memory .goal)) (r .follows .keeps .goal),
-      le-leb actionsRoom (length (t .memory .actions)) (r .follows .keeps .actions),
+      le-leb maxVariables (length (t .memory .sizes)) (r .lent .sizes),
+      le-leb maxVariables (length (t .memory .start)) (r .lent .start),
+      le-leb goalRoom (length (t .memory .goal)) (r .lent .goal),
+      le-leb actionsRoom (length (t .memory .actions)) (r .lent .actions),
       le-leb headRoom (length (t .line)) (r .line),
     )
 
-call-takes : (t : Taken) (bytes : List ℕ) → Ready t → takeCall t bytes ≡ takeAll t bytes
+going-room : (t : Taken) → Going t → hasRoom t ≡ true
+going-room t g =
+    ready-room t (record { kept = g .follows .keeps .states .sound; held = g .held; lent = g .follows .keeps .lent; line = g .line })
+
+call-takes : (t : Taken) (bytes : List ℕ) → Going t → takeCall t bytes ≡ takeAll t bytes
 unfolding takeCall
-call-takes t bytes r = chosen-true (hasRoom t) _ _ (ready-room t r)
+call-takes t bytes g = chosen-true (hasRoom t) _ _ (going-room t g)
 
-call-finishes : (t : Taken) (room : List ℕ) → Ready t → finishCall t room ≡ endWith (lastLine t) room
+call-finishes : (t : Taken) (room : List ℕ) → Going t → finishCall t room ≡ endWith (lastLine t) room
 unfolding finishCall
-call-finishes t room r = chosen-true (hasRoom t) _ _ (ready-room t r)
+call-finishes t room g = chosen-true (hasRoom t) _ _ (going-room t g)
 
-calls-take : (t : Taken) (parts : List (List ℕ)) → Ready t → foldl takeCall t parts ≡ takeAll t (joined parts)
+calls-take : (t : Taken) (parts : List (List ℕ)) → Going t → foldl takeCall t parts ≡ takeAll t (joined parts)
 unfolding joined
-calls-take t [] r = taken-nothing t
-calls-take t (p ∷ parts) r =
-    ap (λ u. foldl takeCall u parts) (call-takes t p r)
-    ∙ calls-take (takeAll t p) parts (ready-all t p r)
+calls-take t [] g = taken-nothing t
+calls-take t (p ∷ parts) g =
+    ap (λ u. foldl takeCall u parts) (call-takes t p g)
+    ∙ calls-take (takeAll t p) parts (going-all t p g)
     ∙ taken-in-pieces t p (joined parts)
 
--- room for each body and for the first bytes of a line
-pub record Lent (m : Memory) (line : List ℕ) : Type 0 where
-  pub sizes : maxVariables ≤ length (m .sizes)
-  pub start : maxVariables ≤ length (m .start)
-  pub goal : goalRoom ≤ length (m .goal)
-  pub actions : actionsRoom ≤ length (m .actions)
-  pub held : headRoom ≤ length line
+-- ---- from the start
 
-pub lent-begun : (m : Memory) (line : List ℕ) → hasRoom (taken begun m line) ≡ true → Lent m line
-unfolding hasRoom roomFor lentFits
-lent-begun m line h =
-    let a : Bool = leb maxVariables (length (m .sizes)) in
-    let b : Bool = leb maxVariables (length (m .start)) in
-    let c : Bool = leb goalRoom (length (m .goal)) in
-    let d : Bool = leb actionsRoom (length (m .actions)) in
-    let e : Bool = leb headRoom (length line) in
-    let abcde : (a && b && c && d && e) ≡ true = and-right (countsFit nothingKept && leb 0 headRoom) (a && b && c && d && e) h in
-    let abcd : (a && b && c && d) ≡ true = and-left (a && b && c && d) e abcde in
-    let abc : (a && b && c) ≡ true = and-left (a && b && c) d abcd in
-    let ab : (a && b) ≡ true = and-left (a && b) c abc in
-    record {
-      sizes = leb-true maxVariables (length (m .sizes)) (and-left a b ab);
-      start = leb-true maxVariables (length (m .start)) (and-right a b ab);
-      goal = leb-true goalRoom (length (m .goal)) (and-right (a && b) c abc);
-      actions = leb-true actionsRoom (length (m .actions)) (and-right (a && b && c) d abcd);
-      held = leb-true headRoom (length line) (and-right (a && b && c && d) e abcde);
-    }
+lines-few : (text : List ℕ) → length text < mostLines → readText text .lines < mostLines
+unfolding readText readTextLines
+lines-few text l = omega (arith, all-lines textBegun (linesOf text), lines-most text)
 
-module _ (m : Memory) (line : List ℕ) (h : Lent m line) where
+module _ (m : Memory) (line : List ℕ) (h : Lent m) (fits : headRoom ≤ length line) where
   follows-begun : Follows nothingStated firstPosition (keptIn nothingKept m)
   unfolding lineDue
   follows-begun =
-      record {
-        stands = before-nothing;
-        keeps =
-            record {
-              states = states-begun (m .sizes) (m .start) (m .goal) (m .actions);
-              sizes = h .sizes;
-              start = h .start;
-              goal = h .goal;
-              actions = h .actions;
-            };
-      }
+      record { stands = before-nothing; keeps = record { states = states-begun (m .sizes) (m .start) (m .goal) (m .actions); lent = h } }
 
-  ready-begun : Ready (taken begun m line)
-  ready-begun = record { said = nothingStated; follows = follows-begun; held = omega arith; line = h .held }
+  going-begun : Going (taken begun m line)
+  going-begun = record { said = nothingStated; follows = follows-begun; held = omega arith; line = fits }
 
   simulates-begun : Simulates textBegun (taken begun m line)
   unfolding linesDue
   simulates-begun = record { verdict = refl; lines = refl; due = refl; follows = follows-begun }
-
-  lines-few : (text : List ℕ) → length text < mostLines → readText text .lines < mostLines
-  unfolding readText readTextLines
-  lines-few text l = omega (arith, all-lines textBegun (linesOf text), lines-most text)
 
   -- the theorem: any text, cut anywhere, is translated as the rules say
   pub translated : (parts : List (List ℕ)) (room : List ℕ) → length (joined parts) < mostLines
@@ -309,7 +277,14 @@ module _ (m : Memory) (line : List ℕ) (h : Lent m line) where
   translated parts room l =
       let text : List ℕ = joined parts in
       let t : Taken = taken begun m line in
-      rw (calls-take t parts ready-begun, call-finishes (takeAll t text) room (ready-all t text ready-begun))
+      rw (calls-take t parts going-begun, call-finishes (takeAll t text) room (going-all t text going-begun))
       (ends-translated text (lastLine (takeAll t text)) room
-      (whole t text simulates-begun (holds-none headRoom line (h .held)) l)
+      (whole t text simulates-begun (holds-none headRoom line fits) l)
       (lines-few text l))
+
+  -- a text in one piece
+  pub translated-whole : (text room : List ℕ) → length text < mostLines → Translated text room (finishCall (takeCall (taken begun m line) text) room)
+  unfolding joined
+  translated-whole text room l =
+      let e : text ++ [] ≡ text = append-nil text in
+      rw e at (translated (text ∷ []) room (rw e l))
