@@ -206,13 +206,33 @@ takeByte t b =
 unfoldable pub takeAll : Taken → List ℕ → Taken
 takeAll t bytes = foldl takeByte t bytes
 
--- bytes from a place on that are held, up to an LF or the end: what is left comes to the same
+-- a byte that is no LF is held, or passed over: for every reading what it is when it takes that byte
+pub record HeldOn (held : ℕ) (line : List ℕ) (b heldThen : ℕ) (lineThen : List ℕ) : Type 0 where
+  pub fits : heldThen ≤ headRoom
+  pub same : (i : Intake) (m : Memory) → i .verdict ≡ Accepted → (b ≡ lf → ⊥)
+      → takeByte (taken (withHeld held i) m line) b ≡ taken (withHeld heldThen i) m lineThen
+
+-- bytes from a place on are held, up to an LF or the end: for every reading what is left comes to the same
+unfoldable pub SameRest : (bytes : List ℕ) (at held : ℕ) (line : List ℕ) (end heldThen : ℕ) (lineThen : List ℕ) → Type 0
+SameRest bytes at held line end heldThen lineThen =
+    (i : Intake) (m : Memory) → i .verdict ≡ Accepted
+    → takeAll (taken (withHeld heldThen i) m lineThen) (drop end bytes) ≡ takeAll (taken (withHeld held i) m line) (drop at bytes)
+
 pub record HeldUpTo (bytes : List ℕ) (at held : ℕ) (line : List ℕ) (end heldThen : ℕ) (lineThen : List ℕ) : Type 0 where
+  pub from : at ≤ end
   pub within : end ≤ length bytes
   pub ends : end < length bytes → getD bytes end 0 ≡ lf
   pub fits : heldThen ≤ headRoom
-  pub rest : (i : Intake) (m : Memory) → i .verdict ≡ Accepted
-      → takeAll (taken (withHeld heldThen i) m lineThen) (drop end bytes) ≡ takeAll (taken (withHeld held i) m line) (drop at bytes)
+  pub rest : SameRest bytes at held line end heldThen lineThen
+
+-- a reading goes on so, and nothing but what is held changes
+pub record HeldLine (i : Intake) (line bytes : List ℕ) (at : ℕ) (then : Intake) (end : ℕ) (lineThen : List ℕ) : Type 0 where
+  pub from : at ≤ end
+  pub within : end ≤ length bytes
+  pub ends : end < length bytes → (getD bytes end 0 ≡ lf) × (then .verdict ≡ Accepted)
+  pub fits : then .held ≤ headRoom
+  pub kept : then .kept ≡ i .kept
+  pub rest : (m : Memory) → takeAll (taken then m lineThen) (drop end bytes) ≡ takeAll (taken i m line) (drop at bytes)
 
 -- ---- the calls: a reading that asks for more than there can be is refused for room
 
@@ -228,10 +248,13 @@ unfoldable pub lentFits : (sizes start goal actions line : ℕ) → Bool
 lentFits sizes start goal actions line =
     leb maxVariables sizes && leb maxVariables start && leb goalRoom goal && leb actionsRoom actions && leb headRoom line
 
+unfoldable pub roomFor : Kept → (held sizes start goal actions line : ℕ) → Bool
+roomFor k held sizes start goal actions line = countsFit k && leb held headRoom && lentFits sizes start goal actions line
+
 unfoldable pub hasRoom : Taken → Bool
 hasRoom t =
-    countsFit (t .intake .kept) && leb (t .intake .held) headRoom
-    && lentFits (length (t .memory .sizes)) (length (t .memory .start)) (length (t .memory .goal)) (length (t .memory .actions)) (length (t .line))
+    roomFor (t .intake .kept) (t .intake .held) (length (t .memory .sizes)) (length (t .memory .start)) (length (t .memory .goal)) (length (t .memory .actions))
+    (length (t .line))
 
 abbrev pub refusedFor : Verdict → Intake → Intake
 refusedFor verdict i = record { position = i .position; lines = i .lines; verdict = verdict; kept = i .kept; held = i .held }
@@ -261,13 +284,16 @@ verdictKept Within k m room = inTurn (rulesKept k m) (judge (roomRule (length (f
 verdictKept Lengths k m room = Refused BodyLength
 verdictKept Actions k m room = inTurn (rulesKept k m) (Refused (ActionAtFault (k .actions)))
 
+-- a text that stops early is at fault at the line after its last
+unfoldable pub stopsEarly : Position → (lines : ℕ) → Verdict
+stopsEarly p lines = judge (demand (isEnd (shapeOf (lineDue p))) (AgainstFormat (oneMore lines)) ∷ [])
+
 -- 30 to 32, then those
+unfoldable pub verdictAtEnd : Intake → Memory → (room : ℕ) → Verdict
+verdictAtEnd i m room = inTurn (i .verdict) (inTurn (stopsEarly (i .position) (i .lines)) (verdictKept (i .kept .excess) (i .kept) m room))
+
 unfoldable pub endVerdict : Taken → (room : ℕ) → Verdict
-endVerdict t room =
-    let i : Intake = t .intake in
-    inTurn (i .verdict)
-    (inTurn (judge (demand (isEnd (shapeOf (lineDue (i .position)))) (AgainstFormat (oneMore (i .lines))) ∷ []))
-    (verdictKept (i .kept .excess) (i .kept) (t .memory) room))
+endVerdict t room = verdictAtEnd (t .intake) (t .memory) room
 
 abbrev pub translation : Verdict → (length : ℕ) → Translation
 translation Accepted length = Translation.Written length
@@ -287,6 +313,11 @@ endWith t room =
     let v : Verdict = endVerdict t (length room) in
     let file : List ℕ = fileKept (t .intake .kept) (t .memory) in
     ended (translation v (length file)) (t .memory) (lentAfter v file room)
+
+-- what is answered at the end, and what is left in the room
+pub record EndsWith (i : Intake) (m : Memory) (room : List ℕ) (answer : Translation) (after : List ℕ) : Type 0 where
+  pub answered : answer ≡ translation (verdictAtEnd i m (length room)) (length (fileKept (i .kept) m))
+  pub leaves : after ≡ lentAfter (verdictAtEnd i m (length room)) (fileKept (i .kept) m) room
 
 unfoldable pub finishCall : Taken → (room : List ℕ) → Ended
 finishCall t room = cond (hasRoom t) (endWith (lastLine t) room) (ended (Translation.Refused Room) (t .memory) room)
