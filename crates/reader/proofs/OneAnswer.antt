@@ -28,6 +28,9 @@ one-bodies-verdict κs a r s x p q = p ∙ sym q
 pub one-file-verdict : (κs : _) (a : _) (r s : Verdict) (x : _) → file-verdict.Post κs a r x → file-verdict.Post κs a s x → r ≡ s
 one-file-verdict κs a r s x p q = p ∙ sym q
 
+pub one-bodies-verdict : (κs : _) (a : _) (r s : Verdict) (x : _) → bodies-verdict.Post κs a r x → bodies-verdict.Post κs a s x → r ≡ s
+one-bodies-verdict κs a r s x p q = p ∙ sym q
+
 pub one-row-body : (κs : _) (a : _) (r s : RefT (List ℕ)) (x : _) → row-body.Post κs a r x → row-body.Post κs a s x → (now r ≡ now s) × (ptr r ≡ ptr s)
 one-row-body κs a r s x p q = same-stretch _ r s _ _ p q
 
