@@ -22,9 +22,6 @@ same-stretch whole r s at bytes p q = (p .holds ∙ sym (q .holds), λ i. ((p .m
 pub one-contents-verdict : (κs : _) (a : _) (r s : Verdict) (x : _) → contents-verdict.Post κs a r x → contents-verdict.Post κs a s x → r ≡ s
 one-contents-verdict κs a r s x p q = p ∙ sym q
 
-pub one-bodies-verdict : (κs : _) (a : _) (r s : Verdict) (x : _) → bodies-verdict.Post κs a r x → bodies-verdict.Post κs a s x → r ≡ s
-one-bodies-verdict κs a r s x p q = p ∙ sym q
-
 pub one-file-verdict : (κs : _) (a : _) (r s : Verdict) (x : _) → file-verdict.Post κs a r x → file-verdict.Post κs a s x → r ≡ s
 one-file-verdict κs a r s x p q = p ∙ sym q
 
