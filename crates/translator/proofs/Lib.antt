@@ -3,6 +3,7 @@ pub mod KeepLaws
 pub mod LineLaws
 pub mod ByteLaws
 pub mod RoomLaws
+pub mod EndLaws
 pub mod PositionLaws
 pub mod Stack
 pub mod Stages

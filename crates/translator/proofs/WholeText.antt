@@ -39,7 +39,7 @@ use Rattle.bodies.specs.declared.Excess.the-variants.{Within, Lengths, Actions}
 use Rattle.bodies.proofs.States.{before-nothing, states-begun}
 use Rattle.bodies.proofs.Verdicts.{taskVerdict, verdict-within, bodies-within, verdict-lengths, verdict-actions}
 use Rattle.translator.specs.Position.{firstPosition, unlessOver, lineDue, movedOn}
-use Rattle.translator.specs.Intake.{Memory, KeptBodies, keptIn, keepLine, mostLines, oneMore, Taken, taken, readOn, unlessRefused, afterLine, endLine, headRoom, takeByte, takeAll, actionsFit, countsFit, lentFits, roomFor, hasRoom, Lent, Ready, takeCall, begun, lastSaid, lastLine, rulesKept, fileKept, verdictKept, endVerdict, translation, Ended, ended, endWith, finishCall}
+use Rattle.translator.specs.Intake.{Memory, KeptBodies, keptIn, keepLine, mostLines, oneMore, Taken, taken, readOn, unlessRefused, afterLine, endLine, headRoom, takeByte, takeAll, actionsFit, countsFit, lentFits, roomFor, hasRoom, Lent, Ready, takeCall, begun, lastSaid, lastLine, rulesKept, fileKept, verdictKept, stopsEarly, verdictAtEnd, endVerdict, translation, Ended, ended, endWith, finishCall}
 use Rattle.translator.specs.declared.position.Position.{Position}
 use Rattle.translator.specs.declared.intake.Intake.{Intake}
 use Rattle.translator.specs.declared.intake.Translation.{Translation}
@@ -122,7 +122,7 @@ module _ (reading : TextReading) (t : Taken) (s : Simulates reading t) (l : read
       ∙ ap (λ due. judge (demand (isEnd (shapeOf due)) (AgainstFormat (suc (reading .lines))) ∷ [])) (sym (due-next reading t s))
 
   end-verdict : (room : ℕ) → endVerdict t room ≡ inTurn (endOfReading reading) (statedVerdict (reading .stated .task) room)
-  unfolding endVerdict endOfReading
+  unfolding endVerdict verdictAtEnd stopsEarly endOfReading
   end-verdict room =
       let p : Position = t .intake .position in
       let ends : Verdict = judge (demand (isEnd (shapeOf (lineDue p))) (AgainstFormat (oneMore (t .intake .lines))) ∷ []) in
@@ -138,7 +138,7 @@ module _ (reading : TextReading) (t : Taken) (s : Simulates reading t) (l : read
       ∙ inTurn-three (reading .verdict) _ task
 
   end-file : (room : ℕ) → endVerdict t room ≡ Accepted → fileKept (t .intake .kept) (t .memory) ≡ fileOf (reading .stated .task)
-  unfolding endVerdict
+  unfolding endVerdict verdictAtEnd stopsEarly
   end-file room a =
       file-accepted (reading .stated) (t .intake .kept) (t .memory) (s .follows .keeps) room
       (inTurn-right (judge (demand (isEnd (shapeOf (lineDue (t .intake .position)))) (AgainstFormat (oneMore (t .intake .lines))) ∷ [])) _
@@ -217,7 +217,7 @@ nothing-or-on EndOfText said k p = inl refl
 -- a text that stops early is refused, whatever is kept
 stops-early : (due : FormatLine) (said : Numbers) (i : Intake) (k : Kept) (m : Memory) (line room : List ℕ) → GoesOn due said (i .position)
     → endWith (taken (readOn due said i k) m line) room ≡ ended (Translation.Refused (AgainstFormat (oneMore (oneMore (i .lines))))) room
-unfolding endWith endVerdict judge
+unfolding endWith endVerdict verdictAtEnd stopsEarly judge
 stops-early due said i k m line room f = rw f refl
 
 said-alike : (s : Said) (due : FormatLine) (i : Intake) (m : Memory) (line room : List ℕ)

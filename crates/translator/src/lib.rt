@@ -1,4 +1,5 @@
 // The translator's text, read in pieces of any length in constant memory, and its task file.
+pub mod ending;
 pub mod intake;
 mod keeping;
 mod lines;
