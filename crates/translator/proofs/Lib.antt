@@ -10,3 +10,4 @@ pub mod Stages
 pub mod Simulated
 pub mod InPieces
 pub mod WholeText
+pub mod Translating
