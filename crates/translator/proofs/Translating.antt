@@ -11,8 +11,8 @@ use Rattle.translator.specs.declared.intake.Intake.{Intake}
 use Rattle.translator.specs.declared.intake.Translation.{Translation}
 use Rattle.translator.proofs.WholeText.{Translated, translated-whole}
 
-module _ (text room : List ℕ) (m then last : Memory) (line held after : List ℕ) (i j : Intake) (r : Translation) (first : i ≡ begun) (took : taken j then held ≡ takeCall (taken i m line) text) (finished : ended r last after ≡ finishCall (taken j then held) room) (lent : Lent m) (fits : headRoom ≤ length line) (short : length text < mostLines) where
-  by-the-rules : Translated text room (ended r last after)
+module _ (text room : List ℕ) (m then : Memory) (line held after : List ℕ) (i j : Intake) (r : Translation) (first : i ≡ begun) (took : taken j then held ≡ takeCall (taken i m line) text) (finished : ended r after ≡ finishCall (taken j then held) room) (lent : Lent m) (fits : headRoom ≤ length line) (short : length text < mostLines) where
+  by-the-rules : Translated text room (ended r after)
   by-the-rules = rw (finished, took, first) (translated-whole m line lent fits text room short)
 
   pub answer-by-the-rules : r ≡ translation (translationVerdict text (length room)) (length (fileOf (textTask text)))
