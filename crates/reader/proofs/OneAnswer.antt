@@ -13,6 +13,7 @@ use Rattle.reader.proofs.contents.body_start.Reads as body-start
 use Rattle.reader.proofs.contents.body_length.Reads as body-length
 use Rattle.reader.proofs.contents.row_body.Reads as row-body
 use Rattle.reader.proofs.contents.body_asked.Reads as body-asked
+use Rattle.reader.proofs.file.bodies_verdict.Reads as bodies-verdict
 use Rattle.reader.proofs.file.file_verdict.Reads as file-verdict
 
 same-stretch : (whole r s : RefT (List ℕ)) (at : ℕ) (bytes : List ℕ) → Stretch whole r at bytes → Stretch whole s at bytes → (now r ≡ now s) × (ptr r ≡ ptr s)
@@ -23,6 +24,9 @@ one-contents-verdict κs a r s x p q = p ∙ sym q
 
 pub one-file-verdict : (κs : _) (a : _) (r s : Verdict) (x : _) → file-verdict.Post κs a r x → file-verdict.Post κs a s x → r ≡ s
 one-file-verdict κs a r s x p q = p ∙ sym q
+
+pub one-bodies-verdict : (κs : _) (a : _) (r s : Verdict) (x : _) → bodies-verdict.Post κs a r x → bodies-verdict.Post κs a s x → r ≡ s
+one-bodies-verdict κs a r s x p q = p ∙ sym q
 
 pub one-row-body : (κs : _) (a : _) (r s : RefT (List ℕ)) (x : _) → row-body.Post κs a r x → row-body.Post κs a s x → (now r ≡ now s) × (ptr r ≡ ptr s)
 one-row-body κs a r s x p q = same-stretch _ r s _ _ p q

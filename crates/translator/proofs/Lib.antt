@@ -11,3 +11,4 @@ pub mod Simulated
 pub mod InPieces
 pub mod WholeText
 pub mod Translating
+pub mod OneAnswer

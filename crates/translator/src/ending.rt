@@ -51,7 +51,8 @@ fn stops_early(position: Position, lines: usize) -> Verdict
     if is_end(line_due(position)) {
         return Verdict::Accepted;
     }
-    Verdict::Refused(Refusal::AgainstFormat(one_more(lines)))
+    let at = one_more(lines);
+    Verdict::Refused(Refusal::AgainstFormat(at))
 }
 
 // Refusals 3 to 7 on what is kept.
