@@ -31,7 +31,7 @@ use Rattle.rules.proofs.Decimal.{decimal-one, decimal-more, decimal-som
 digit-is : (j : ℕ) → j < 10 → isDigit (digit0 + j) ≡ true
 digit-is j h = and-both _ _ (le-leb digit0 (digit0 + j) (omega arith)) (le-leb (digit0 + j) (digit0 + 9) (omega arith))
 
-all-digits : (m : ℕ) → every isDigit (decimal m) ≡ true
+pub all-digits : (m : ℕ) → every isDigit (decimal m) ≡ true
 all-digits m = decimal-every isDigit digit-is m
 
 -- one more digit at the end
@@ -59,7 +59,7 @@ byte-front : (s t : List ℕ) → 1 ≤ length s → byte (s ++ t) 0 ≡ byte s 
 byte-front [] t h = absurd (omega arith)
 byte-front (b ∷ s) t h = refl
 
-leading : (most m : ℕ) → m < most → 1 ≤ m → digit0 < byte (decimal m) 0
+pub leading : (most m : ℕ) → m < most → 1 ≤ m → digit0 < byte (decimal m) 0
 leading zero m h l = absurd (omega arith)
 leading (suc most) m h l =
     ⊎-elim (λ s. rw (decimal-one m s) (omega arith))

@@ -1,4 +1,6 @@
 // Writes a task file from its four bodies.
+use reader::limits::BYTE_VALUES;
+use reader::limits::CONTENTS_BYTES;
 ghost use mathlib.Core.Path.{_≡_};
 ghost use mathlib.Core.List.{_++_};
 ghost use Prim.Native.Nat.{_+_, _*_, _≤_, _<_};
@@ -8,17 +10,14 @@ ghost use Rattle.rules.specs.File.{bytes16};
 ghost use Rattle.digits.specs.Over.{over, Wrote};
 ghost use Rattle.writer.specs.Laid.{row, rows, contentsBy, half, fileLength, laidOut};
 
-// The bytes of the contents, where the first body starts.
-const CONTENTS: usize = 16;
-
 // Writes a number in two bytes, the low one first, and answers the place behind them.
 fn put_number(room: &mut [u8], at: usize, m: usize) -> usize
     requires { ⌜ (m < byteValues * byteValues) × (at + numberBytes ≤ length (now room)) ⌝ }
     ensures written { λ end. ⌜ now (room .exit) ≡ over (now (room .entry)) at (bytes16 m) ⌝ }
     ensures behind { λ end. ⌜ end ≡ at + numberBytes ⌝ }
 {
-    let high = digits::put_byte(room, at, (m % 256) as u8);
-    digits::put_byte(room, high, (m / 256) as u8)
+    let high = digits::put_byte(room, at, (m % BYTE_VALUES) as u8);
+    digits::put_byte(room, high, (m / BYTE_VALUES) as u8)
 }
 
 // Writes a row of the contents, and answers the place behind it.
@@ -46,7 +45,7 @@ pub fn file_length(sizes: usize, start: usize, goal: usize, actions: usize) -> u
     requires { ⌜ fileLength sizes start goal actions ≤ maxFile ⌝ }
     ensures { λ r. ⌜ r ≡ fileLength sizes start goal actions ⌝ }
 {
-    CONTENTS + sizes + start + goal + actions
+    CONTENTS_BYTES + sizes + start + goal + actions
 }
 
 // Writes the contents of bodies of these lengths, and answers the place behind them.
@@ -55,8 +54,8 @@ fn put_contents(room: &mut [u8], sizes: usize, start: usize, goal: usize, action
     ensures wrote { λ end. ⌜ Wrote (now (room .entry)) 0 (contentsBy sizes start goal actions) (now (room .exit)) end ⌝ }
     ensures behind { λ end. ⌜ end ≡ contentsBytes ⌝ }
 {
-    let half = put_rows(room, 0, CONTENTS, sizes, start);
-    put_rows(room, half, CONTENTS + sizes + start, goal, actions)
+    let half = put_rows(room, 0, CONTENTS_BYTES, sizes, start);
+    put_rows(room, half, CONTENTS_BYTES + sizes + start, goal, actions)
 }
 
 // Writes two bodies at a place, and answers the place behind them.
