@@ -1,4 +1,4 @@
--- A text taken in: a line at a time, and in pieces of any length. The first bytes of a line are held, one more than any line has whose rest matters.
+-- A text taken in: a line at a time, and in pieces of any length. The first bytes of a line are held, which decide it.
 -- Assumes nothing.
 use Prim.Native.Nat.{ℕ, _+_, _*_, _-_, _^_, _≤_, _<_, min}
 use mathlib.Core.Path.{_≡_}
@@ -21,7 +21,7 @@ use Rattle.rules.specs.declared.FormatLine.{FormatLine}
 use Rattle.rules.specs.declared.FormatLine.the-variants.{BeginVersion, Version, EndVersion, BeginMetric, Metric, EndMetric, VariableCount, BeginVariable, VariableName, AxiomLayer, Range, AtomName, EndVariable, MutexGroupCount, BeginMutexGroup, MutexFactCount, MutexFact, EndMutexGroup, BeginState, StateValue, EndState, BeginGoal, GoalCount, GoalFact, EndGoal, OperatorCount, BeginOperator, OperatorName, PrevailCount, PrevailCondition, EffectCount, Effect, Cost, EndOperator, AxiomCount, EndOfText}
 use Rattle.reader.specs.Bodies.{bodiesRules}
 use Rattle.writer.specs.Laid.{laidOut}
-use Rattle.textlines.specs.Says.{saysAs}
+use Rattle.textlines.specs.Says.{deciding, saysAs}
 use Rattle.textlines.specs.declared.OldValue.{OldValue}
 use Rattle.textlines.specs.declared.Numbers.{Numbers}
 use Rattle.textlines.specs.declared.Said.{Said}
@@ -143,9 +143,9 @@ mostLines = 2 ^ 64 - 1
 abbrev pub oneMore : ℕ → ℕ
 oneMore lines = min (lines + 1) mostLines
 
--- how many bytes of a line are held
+-- how many bytes of a line are held at most: those that decide it
 abbrev pub headRoom : ℕ
-headRoom = 32
+headRoom = deciding
 
 -- how far a reading is, and all that is lent to it
 pub record Taken : Type 0 where

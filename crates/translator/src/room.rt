@@ -1,5 +1,6 @@
 // Whether what is lent is room for a reading.
 use bodies::Kept;
+use reader::limits::COUNT_BYTES;
 use reader::limits::MAX_ACTIONS;
 use reader::limits::MAX_GOALS;
 use reader::limits::MAX_PAIRS;
@@ -9,7 +10,7 @@ ghost use mathlib.Core.Path.{_≡_};
 ghost use Rattle.translator.specs.Intake.{actionsFit, countsFit, lentFits, roomFor};
 
 // The bytes of the longest action.
-const MAX_ACTION: usize = 34;
+const MAX_ACTION: usize = COUNT_BYTES + PAIR_BYTES * (MAX_PAIRS + MAX_PAIRS);
 
 // Room for the goal at its limit.
 pub const GOAL_ROOM: usize = PAIR_BYTES * MAX_GOALS;
