@@ -63,8 +63,8 @@ ends-within : (v : Verdict) (file room : List ℕ) (n : ℕ) → translation v (
 ends-within Accepted file room n e = omega (arith, ap lengthOf e, length-append file (drop (length file) room))
 ends-within (Refused why) file room n e = omega (arith, ap lengthOf e)
 
-with-room : (b : Bool) (t : Taken) (room : List ℕ) (n : ℕ) → cond b (endWith (lastLine t) room) (ended (Translation.Refused Room) (t .memory) room) .answer ≡ Translation.Written n
-    → n ≤ length (cond b (endWith (lastLine t) room) (ended (Translation.Refused Room) (t .memory) room) .room)
+with-room : (b : Bool) (t : Taken) (room : List ℕ) (n : ℕ) → cond b (endWith (lastLine t) room) (ended (Translation.Refused Room) room) .answer ≡ Translation.Written n
+    → n ≤ length (cond b (endWith (lastLine t) room) (ended (Translation.Refused Room) room) .room)
 unfolding endWith
 with-room true t room n e = ends-within (endVerdict (lastLine t) (length room)) (fileKept (lastLine t .intake .kept) (lastLine t .memory)) room n e
 with-room false t room n e = omega (arith, ap lengthOf e)
@@ -73,8 +73,8 @@ finish-within : (t : Taken) (room : List ℕ) (n : ℕ) → finishCall t room .a
 unfolding finishCall
 finish-within t room n e = with-room (hasRoom t) t room n e
 
-module _ (t : Taken) (room now : List ℕ) (m : Memory) (answer : Translation) where
-  pub written-shown : (n : ℕ) → ended answer m now ≡ finishCall t room → answer ≡ Translation.Written n → Shown (endText t room) now n
+module _ (t : Taken) (room now : List ℕ) (answer : Translation) where
+  pub written-shown : (n : ℕ) → ended answer now ≡ finishCall t room → answer ≡ Translation.Written n → Shown (endText t room) now n
   unfolding endText
   written-shown n e f =
       record {
@@ -82,7 +82,7 @@ module _ (t : Taken) (room now : List ℕ) (m : Memory) (answer : Translation) w
         within = rw (ap (λ x. x .room) e) (finish-within t room n (sym (ap (λ x. x .answer) e) ∙ f));
       }
 
-  pub refused-shown : (why : Refusal) (shown : List ℕ) (end : ℕ) → shown ≡ over now 0 (refusalLine why) → end ≡ length (refusalLine why) → ended answer m now ≡ finishCall t room
+  pub refused-shown : (why : Refusal) (shown : List ℕ) (end : ℕ) → shown ≡ over now 0 (refusalLine why) → end ≡ length (refusalLine why) → ended answer now ≡ finishCall t room
       → answer ≡ Translation.Refused why → Shown (endText t room) shown end
   unfolding endText
   refused-shown why shown end g h e f =

@@ -62,10 +62,10 @@ fn take_parts(
 // The text ends: what is to be printed stands first in `room`; how many bytes that are.
 fn end_text(
     state: Intake,
-    sizes: &mut [u8],
-    start: &mut [u8],
-    goal: &mut [u8],
-    actions: &mut [u8],
+    sizes: &[u8],
+    start: &[u8],
+    goal: &[u8],
+    actions: &[u8],
     line: &[u8],
     room: &mut [u8],
 ) -> usize

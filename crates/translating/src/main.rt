@@ -110,15 +110,7 @@ fn in_pieces(text: &[u8], piece: usize, room: &mut [u8]) -> Translation
         &mut actions,
         &mut line,
     );
-    finish(
-        state,
-        &mut sizes,
-        &mut start,
-        &mut goal,
-        &mut actions,
-        &line,
-        room,
-    )
+    finish(state, &sizes, &start, &goal, &actions, &line, room)
 }
 
 fn answer_to(text: &[u8], piece: usize, room: &mut [u8]) -> Translation {

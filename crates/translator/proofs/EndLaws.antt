@@ -5,7 +5,7 @@ use mathlib.Core.Path.{_≡_, refl, sym, ap, _∙_}
 use mathlib.Core.Bool.{Bool, true, false, not}
 use mathlib.Core.List.{List, [], _∷_, _++_}
 use native.Mathlib.Omega.{arith}
-use borrow.Author.Tests.{eq-eqb, ne-eqb, leb-true, le-leb, lt-leb}
+use borrow.Author.Tests.{leb-true, le-leb, lt-leb}
 use denote.Enum.Declared.{tagOf}
 use types.Run.{OneOf, miss}
 use lib.Dec.{leb}
@@ -34,26 +34,11 @@ use Rattle.bodies.specs.declared.Excess.{Excess}
 use Rattle.bodies.specs.declared.Excess.the-variants.{Within, Lengths, Actions}
 use Rattle.bodies.specs.Keeping.{Sound}
 use Rattle.translator.specs.Position.{lineDue}
-use Rattle.translator.specs.Intake.{Memory, memory, Lent, oneMore, taken, endLine, roomFor, hasRoom, lastLine, rulesKept, fileKept, verdictKept, stopsEarly, verdictAtEnd, endVerdict, translation, ended, endWith, EndsWith, finishCall}
+use Rattle.translator.specs.Intake.{Memory, memory, Lent, oneMore, taken, Ready, roomFor, hasRoom, lastLine, rulesKept, fileKept, verdictKept, stopsEarly, verdictAtEnd, endVerdict, translation, ended, endWith, EndsWith, finishCall}
 use Rattle.translator.specs.declared.position.Position.{Position}
 use Rattle.translator.specs.declared.intake.Intake.{Intake}
 use Rattle.translator.specs.declared.intake.Translation.{Translation}
-
--- ---- the last line
-
-module _ (i : Intake) (m : Memory) (line : List ℕ) where
-  pub none-held : i .held ≡ 0 → taken i m line ≡ lastLine (taken i m line)
-  unfolding lastLine
-  none-held e = rw (eq-eqb (i .held) 0 e)
-
-  pub some-held : (r : Intake) (after : Memory) → (i .held ≡ 0 → ⊥) → taken r after line ≡ endLine (taken i m line) → taken r after line ≡ lastLine (taken i m line)
-  unfolding lastLine
-  some-held r after e h = rw (ne-eqb (i .held) 0 e) h
-
-pub lent-still : (m after : Memory) → Lent m → length (after .sizes) ≡ length (m .sizes) → length (after .start) ≡ length (m .start)
-    → length (after .goal) ≡ length (m .goal) → length (after .actions) ≡ length (m .actions) → Lent after
-lent-still m after l a b c d =
-    record { sizes = omega (arith, l .sizes); start = omega (arith, l .start); goal = omega (arith, l .goal); actions = omega (arith, l .actions) }
+use Rattle.translator.proofs.RoomLaws.{room-ready}
 
 -- ---- a text that stops early
 
@@ -246,15 +231,36 @@ module _ (i : Intake) (m : Memory) (room : List ℕ) (v : Verdict) (e : v ≡ ve
         leaves = a ∙ ap (λ v. lentAfter v (fileKept (i .kept) m) room) (sym w ∙ e);
       }
 
-module _ (i : Intake) (m : Memory) (line room : List ℕ) (b : Bool) (has : b ≡ roomFor (i .kept) (i .held) (length (m .sizes)) (length (m .start)) (length (m .goal)) (length (m .actions)) (length line)) where
-  pub finish-short : not b ≡ true → ended (Translation.Refused Room) m room ≡ finishCall (taken i m line) room
-  unfolding finishCall hasRoom
-  finish-short h = rw (sym has ∙ not-true b h)
+-- ---- the last line, then the answer
 
-  pub finish-ends : (last : Intake) (then : Memory) (answer : Translation) (after : List ℕ) → not b ≡ false
-      → taken last then line ≡ lastLine (taken i m line) → EndsWith last then room answer after
-      → ended answer then after ≡ finishCall (taken i m line) room
-  unfolding finishCall hasRoom endWith endVerdict
-  finish-ends last then answer after h t w =
-      rw (sym has ∙ not-false b h, ← t)
-      (ap (λ a. ended a then after) (w .answered) ∙ ap (ended (translation (verdictAtEnd last then (length room)) (length (fileKept (last .kept) then))) then) (w .leaves))
+pub still-sound : (i last : Intake) → last .kept ≡ i .kept → Sound (i .kept) → Sound (last .kept)
+still-sound i last e s = rw e s
+
+pub reading-ends : (i last : Intake) (m : Memory) (line room : List ℕ) (answer : Translation) (after : List ℕ)
+    → ((m : Memory) → taken last m line ≡ lastLine (taken i m line)) → EndsWith last m room answer after
+    → ended answer after ≡ endWith (lastLine (taken i m line)) room
+unfolding endWith endVerdict
+reading-ends i last m line room answer after t w =
+    rw (← t m)
+    (ap (λ a. ended a after) (w .answered) ∙ ap (ended (translation (verdictAtEnd last m (length room)) (length (fileKept (last .kept) m)))) (w .leaves))
+
+-- ---- the call
+
+pub has-room-is : (i : Intake) (m : Memory) (line : List ℕ) (b : Bool)
+    → b ≡ roomFor (i .kept) (i .held) (length (m .sizes)) (length (m .start)) (length (m .goal)) (length (m .actions)) (length line) → b ≡ hasRoom (taken i m line)
+unfolding hasRoom
+has-room-is i m line b e = e
+
+module _ (i : Intake) (m : Memory) (line : List ℕ) (b : Bool) (has : b ≡ hasRoom (taken i m line)) where
+  pub has-ready : not b ≡ false → Ready (taken i m line)
+  unfolding hasRoom
+  has-ready h = room-ready i m line b has h
+
+  pub finish-short : (room : List ℕ) → not b ≡ true → ended (Translation.Refused Room) room ≡ finishCall (taken i m line) room
+  unfolding finishCall
+  finish-short room h = rw (sym has ∙ not-true b h)
+
+  pub finish-ends : (room : List ℕ) (answer : Translation) (after : List ℕ) → not b ≡ false → ended answer after ≡ endWith (lastLine (taken i m line)) room
+      → ended answer after ≡ finishCall (taken i m line) room
+  unfolding finishCall
+  finish-ends room answer after h e = rw (sym has ∙ not-false b h) e

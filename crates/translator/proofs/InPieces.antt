@@ -21,10 +21,14 @@ use Rattle.rules.proofs.Bools.{either, below-or}
 use Rattle.rules.proofs.Cut.{linesAhead, ahead-first, ahead-none, ahead-last, ahead-lf, ahead-byte, lines-most, Holds, holds-none, holds-more, holds-full}
 use Rattle.textlines.specs.Says.{saysAs}
 use Rattle.textlines.specs.declared.Said.{Said}
-use Rattle.translator.specs.Intake.{Memory, mostLines, oneMore, Taken, taken, afterLine, endLine, headRoom, withHeld, takeByte, takeAll, begun, lastLine}
+use Rattle.translator.specs.Intake.{Memory, mostLines, oneMore, Taken, taken, afterLine, endLine, headRoom, withHeld, takeByte, takeAll, begun}
 use Rattle.translator.specs.Position.{lineDue}
 use Rattle.translator.specs.declared.intake.Intake.{Intake}
 use Rattle.translator.proofs.Simulated.{unless-accepted, unless-refused, Simulates, simulates-line}
+
+-- what is held of a last line, kept as any other is
+unfoldable pub lastKept : Taken → Taken
+lastKept t = cond (eqb (t .intake .held) 0) t (endLine t)
 
 -- ---- pieces do not matter
 
@@ -65,8 +69,8 @@ bytes-stay t why [] e = refl
 bytes-stay t why (b ∷ bytes) e =
     ap (λ u. takeAll u bytes) (unless-refused (t .intake .verdict) why _ t e) ∙ bytes-stay t why bytes e
 
-last-stays : (t : Taken) (why : Refusal) → t .intake .verdict ≡ Refused why → lastLine t ≡ t
-unfolding lastLine endLine
+last-stays : (t : Taken) (why : Refusal) → t .intake .verdict ≡ Refused why → lastKept t ≡ t
+unfolding lastKept endLine
 last-stays t why e =
     ⊎-elim (chosen-true (eqb (t .intake .held) 0) t (endLine t))
     (λ h. chosen-false (eqb (t .intake .held) 0) t (endLine t) h ∙ unless-refused (t .intake .verdict) why _ t e)
@@ -138,18 +142,18 @@ simulates-held reading t held line h = record { verdict = h .verdict; lines = h 
 
 -- where the line that has begun is held, both readings of it and of the bytes behind it go together
 abbrev Read : List ℕ → TextReading → Taken → List ℕ → Type 0
-Read bytes reading t begun = Simulates (foldl step reading (linesAhead begun bytes)) (lastLine (takeAll t bytes))
+Read bytes reading t begun = Simulates (foldl step reading (linesAhead begun bytes)) (lastKept (takeAll t bytes))
 
 module _ (reading : TextReading) (t : Taken) (s : Simulates reading t) where
   read-refused : (bytes begun : List ℕ) (why : Refusal) → reading .verdict ≡ Refused why → Read bytes reading t begun
   read-refused bytes begun why e =
-      simulates-as (foldl step reading (linesAhead begun bytes)) reading (lastLine (takeAll t bytes)) t
+      simulates-as (foldl step reading (linesAhead begun bytes)) reading (lastKept (takeAll t bytes)) t
       (lines-stay reading why (linesAhead begun bytes) e)
-      (ap lastLine (bytes-stay t why bytes (s .verdict ∙ e)) ∙ last-stays t why (s .verdict ∙ e))
+      (ap lastKept (bytes-stay t why bytes (s .verdict ∙ e)) ∙ last-stays t why (s .verdict ∙ e))
       s
 
   read-end : (begun : List ℕ) → reading .verdict ≡ Accepted → reading .lines < mostLines → Holds headRoom (t .intake .held) (t .line) begun → Read [] reading t begun
-  unfolding takeAll lastLine
+  unfolding takeAll lastKept
   read-end [] v l h =
       simulates-as _ reading _ t (ap (foldl step reading) ahead-none)
       (chosen-true (eqb (t .intake .held) 0) t (endLine t) (eq-eqb (t .intake .held) 0 (omega (arith, h .much))))
@@ -164,18 +168,18 @@ module _ (reading : TextReading) (t : Taken) (s : Simulates reading t) where
       → Read (b ∷ bytes) reading t begun
   unfolding takeAll
   read-lf bytes begun b e v rest =
-      simulates-as _ (foldl step (readTextLine reading begun) (linesAhead [] bytes)) _ (lastLine (takeAll (endLine t) bytes))
+      simulates-as _ (foldl step (readTextLine reading begun) (linesAhead [] bytes)) _ (lastKept (takeAll (endLine t) bytes))
       (ap (foldl step reading) (ahead-lf begun bytes b e) ∙ ap (λ r. foldl step r (linesAhead [] bytes)) (step-reads reading begun v))
-      (ap (λ u. lastLine (takeAll u bytes)) (byte-ends t b (s .verdict ∙ v) e))
+      (ap (λ u. lastKept (takeAll u bytes)) (byte-ends t b (s .verdict ∙ v) e))
       rest
 
   read-byte : (bytes begun : List ℕ) (b : ℕ) → (b ≡ lf → ⊥) → (u : Taken) → takeByte t b ≡ u → Read bytes reading u (begun ++ (b ∷ []))
       → Read (b ∷ bytes) reading t begun
   unfolding takeAll
   read-byte bytes begun b e u f rest =
-      simulates-as _ (foldl step reading (linesAhead (begun ++ (b ∷ [])) bytes)) _ (lastLine (takeAll u bytes))
+      simulates-as _ (foldl step reading (linesAhead (begun ++ (b ∷ [])) bytes)) _ (lastKept (takeAll u bytes))
       (ap (foldl step reading) (ahead-byte begun bytes b e))
-      (ap (λ u. lastLine (takeAll u bytes)) f)
+      (ap (λ u. lastKept (takeAll u bytes)) f)
       rest
 
 read-all : (bytes : List ℕ) (reading : TextReading) (t : Taken) (begun : List ℕ) → Simulates reading t → Holds headRoom (t .intake .held) (t .line) begun
@@ -211,9 +215,9 @@ read-all (b ∷ bytes) reading t begun s h l =
 
 -- a text from its start
 pub whole : (t : Taken) (text : List ℕ) → Simulates textBegun t → Holds headRoom (t .intake .held) (t .line) [] → length text < mostLines
-    → Simulates (readText text) (lastLine (takeAll t text))
+    → Simulates (readText text) (lastKept (takeAll t text))
 unfolding readText readTextLines
 whole t text s h l =
-    simulates-as _ (foldl step textBegun (linesAhead [] text)) _ (lastLine (takeAll t text))
+    simulates-as _ (foldl step textBegun (linesAhead [] text)) _ (lastKept (takeAll t text))
     (ap (foldl step textBegun) (sym (ahead-first text))) refl
     (read-all text textBegun t [] s h (omega (arith, lines-most text, ap length (ahead-first text))))

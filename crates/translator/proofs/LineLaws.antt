@@ -1,9 +1,11 @@
 -- A line that ends: refused before, refused now, or read.
 -- Assumes nothing.
 use Prim.Native.Nat.{ℕ, _≤_}
-use mathlib.Core.Path.{_≡_, sym, ap, _∙_}
+use mathlib.Core.Path.{_≡_, refl, sym, ap, _∙_}
 use mathlib.Core.List.{List}
 use native.Mathlib.Omega.{arith}
+use borrow.Author.Tests.{eq-eqb, ne-eqb}
+use lib.Dec.{eqb}
 use lib.ListN.{length, take}
 use lib.Seq.{length-take-le}
 use Rattle.rules.specs.declared.FormatLine.{FormatLine}
@@ -15,7 +17,7 @@ use Rattle.textlines.specs.declared.Said.{Said}
 use Rattle.bodies.specs.Keeping.{Sound, nothingKept}
 use Rattle.bodies.specs.declared.Kept.{Kept}
 use Rattle.translator.specs.Position.{firstPosition, lineDue, movedOn}
-use Rattle.translator.specs.Intake.{Memory, KeptBodies, keptIn, keepLine, oneMore, readOn, stoppedFor, afterLine, headRoom, taken, unlessRefused, endLine, begun}
+use Rattle.translator.specs.Intake.{Memory, KeptBodies, keptIn, keepLine, oneMore, readOn, stoppedFor, afterLine, headRoom, taken, unlessRefused, endLine, begun, lastSaid, lastLine}
 use Rattle.translator.specs.declared.position.Position.{Position}
 use Rattle.translator.specs.declared.intake.Intake.{Intake}
 
@@ -60,3 +62,36 @@ module _ (i : Intake) (m : Memory) (line : List ℕ) where
   unfolding endLine
   line-ended due at said r after e d a s f =
       rw (← d, ← a, ← s) (f line ∙ ap (λ v. unlessRefused v (afterLine said due i m line) (taken i m line)) (sym e))
+
+-- ---- a last line without LF
+
+module _ (said : Said) (due : FormatLine) (i r : Intake) where
+  pub last-refused : (why : Refusal) → said ≡ Said.Refused why → r ≡ stoppedFor why i → r ≡ lastSaid said due i
+  last-refused why w e = rw w e
+
+  pub last-read : (numbers : Numbers) → said ≡ Said.Says numbers → r ≡ readOn due numbers i (i .kept) → r ≡ lastSaid said due i
+  last-read numbers w e = rw w e
+
+said-keeps : (said : Said) (due : FormatLine) (i : Intake) → lastSaid said due i .kept ≡ i .kept
+said-keeps (Said.Says numbers) due i = refl
+said-keeps (Said.Refused why) due i = refl
+
+pub last-keeps : (said : Said) (due : FormatLine) (i r : Intake) → r ≡ lastSaid said due i → r .kept ≡ i .kept
+last-keeps said due i r e = ap (λ i. i .kept) e ∙ said-keeps said due i
+
+module _ (i : Intake) (line : List ℕ) where
+  pub none-held : i .held ≡ 0 → (m : Memory) → taken i m line ≡ lastLine (taken i m line)
+  unfolding lastLine
+  none-held e m = rw (eq-eqb (i .held) 0 e)
+
+  pub last-stopped : (why : Refusal) → (i .held ≡ 0 → ⊥) → i .verdict ≡ Refused why → (m : Memory) → taken i m line ≡ lastLine (taken i m line)
+  unfolding lastLine
+  last-stopped why h e m = rw (ne-eqb (i .held) 0 h, e)
+
+  pub last-judged : (due : FormatLine) (at : ℕ) (said : Said) (r : Intake) → (i .held ≡ 0 → ⊥) → i .verdict ≡ Accepted → due ≡ lineDue (i .position)
+      → at ≡ oneMore (i .lines) → said ≡ saysAs due at (take (i .held) line) → r ≡ lastSaid said due i
+      → (m : Memory) → taken r m line ≡ lastLine (taken i m line)
+  unfolding lastLine
+  last-judged due at said r h e d a s f m =
+      rw (ne-eqb (i .held) 0 h, ← d, ← a, ← s)
+      (ap (λ r. taken r m line) f ∙ ap (λ v. unlessRefused v (taken (lastSaid said due i) m line) (taken i m line)) (sym e))

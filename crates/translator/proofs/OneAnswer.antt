@@ -20,8 +20,7 @@ pub one-take-bytes : (κs : _) (a : _) (r s : Intake) (x y : _) → take-bytes.P
 one-take-bytes κs a r s x y p q = p ∙ sym q
 
 pub one-finish : (κs : _) (a : _) (r s : Translation) (x y : _) → finish.Post κs a r x → finish.Post κs a s y
-    → ended r (memory (now (x .1 .0)) (now (x .1 .1 .0)) (now (x .1 .1 .1 .0)) (now (x .1 .1 .1 .1 .0))) (now (x .1 .1 .1 .1 .1 .1 .0))
-    ≡ ended s (memory (now (y .1 .0)) (now (y .1 .1 .0)) (now (y .1 .1 .1 .0)) (now (y .1 .1 .1 .1 .0))) (now (y .1 .1 .1 .1 .1 .1 .0))
+    → ended r (now (x .1 .1 .1 .1 .1 .1 .0)) ≡ ended s (now (y .1 .1 .1 .1 .1 .1 .0))
 one-finish κs a r s x y p q = p ∙ sym q
 
 pub one-translate : (κs : _) (a : _) (r s : Translation) (x y : _) → translate.Post κs a r x → translate.Post κs a s y

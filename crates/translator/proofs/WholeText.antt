@@ -1,10 +1,10 @@
 -- A text that is taken in by calls, cut anywhere, comes to the rules' translation of the whole.
 -- Assumes nothing.
 use mathlib.Core.Path.{_≡_, refl, sym, ap, _∙_}
-use mathlib.Core.Logic.{⊎-elim}
-use mathlib.Core.Bool.{true}
+use mathlib.Core.Logic.{_⊎_, inl, inr, ⊎-elim}
+use mathlib.Core.Bool.{true, false}
 use mathlib.Core.List.{List, [], _∷_, _++_, foldl, append-nil}
-use Prim.Native.Nat.{ℕ, suc, _*_, _≤_, _<_}
+use Prim.Native.Nat.{ℕ, suc, _-_, _*_, _≤_, _<_}
 use native.Mathlib.Omega.{arith}
 use borrow.Author.Tests.{le-leb, eqb-true, eqb-false}
 use lib.Dec.{eqb}
@@ -19,6 +19,8 @@ use Rattle.rules.specs.Output.{linesOf}
 use Rattle.rules.specs.Calls.{roomRule, lentAfter}
 use Rattle.rules.specs.Format.{Stated, nothingStated, noAction, shapeOf, lineRules, stated}
 use Rattle.rules.specs.Translation.{TextReading, textBegun, shapeDue, readTextLines, readText, isEnd, endOfReading, textVerdict, textTask, statedVerdict, translationVerdict, translationAfter}
+use Rattle.rules.specs.declared.FormatLine.{FormatLine}
+use Rattle.rules.specs.declared.FormatLine.the-variants.{BeginVersion, Version, EndVersion, BeginMetric, Metric, EndMetric, VariableCount, BeginVariable, VariableName, AxiomLayer, Range, AtomName, EndVariable, MutexGroupCount, BeginMutexGroup, MutexFactCount, MutexFact, EndMutexGroup, BeginState, StateValue, EndState, BeginGoal, GoalCount, GoalFact, EndGoal, OperatorCount, BeginOperator, OperatorName, PrevailCount, PrevailCondition, EffectCount, Effect, Cost, EndOperator, AxiomCount, EndOfText}
 use Rattle.rules.specs.declared.Refusal.{Refusal}
 use Rattle.rules.specs.declared.Refusal.the-variants.{ActionAtFault, AgainstFormat}
 use Rattle.rules.specs.declared.Verdict.{Verdict}
@@ -28,18 +30,22 @@ use Rattle.rules.proofs.Judging.{refused-not, judge-head, judge-append, inTurn-
 use Rattle.rules.proofs.Cut.{lines-most, holds-none}
 use Rattle.writer.specs.Laid.{laidOut}
 use Rattle.textlines.specs.Says.{numbersIn, saidBy, shapeSays, saysAs}
+use Rattle.textlines.specs.declared.Numbers.{Numbers}
+use Rattle.textlines.specs.declared.Said.{Said}
 use Rattle.bodies.specs.Keeping.{nothingKept, goalRoom, actionsRoom, Sound}
 use Rattle.bodies.specs.declared.Kept.{Kept}
 use Rattle.bodies.specs.declared.Excess.{Excess}
 use Rattle.bodies.specs.declared.Excess.the-variants.{Within, Lengths, Actions}
 use Rattle.bodies.proofs.States.{before-nothing, states-begun}
 use Rattle.bodies.proofs.Verdicts.{taskVerdict, verdict-within, bodies-within, verdict-lengths, verdict-actions}
-use Rattle.translator.specs.Position.{firstPosition, lineDue}
-use Rattle.translator.specs.Intake.{Memory, keptIn, mostLines, oneMore, Taken, taken, afterLine, endLine, headRoom, takeByte, takeAll, actionsFit, countsFit, lentFits, roomFor, hasRoom, Lent, Ready, takeCall, begun, lastLine, rulesKept, fileKept, verdictKept, stopsEarly, verdictAtEnd, endVerdict, translation, Ended, endWith, finishCall}
+use Rattle.translator.specs.Position.{firstPosition, unlessOver, lineDue, movedOn}
+use Rattle.translator.specs.Intake.{Memory, KeptBodies, keptIn, keepLine, mostLines, oneMore, Taken, taken, readOn, unlessRefused, afterLine, endLine, headRoom, takeByte, takeAll, actionsFit, countsFit, lentFits, roomFor, hasRoom, Lent, Ready, takeCall, begun, lastSaid, lastLine, rulesKept, fileKept, verdictKept, stopsEarly, verdictAtEnd, endVerdict, translation, Ended, ended, endWith, finishCall}
 use Rattle.translator.specs.declared.position.Position.{Position}
+use Rattle.translator.specs.declared.intake.Intake.{Intake}
+use Rattle.translator.specs.declared.intake.Translation.{Translation}
 use Rattle.translator.proofs.Stack.{linesDue, no-end}
 use Rattle.translator.proofs.Simulated.{unless-accepted, unless-refused, Keeps, Follows, follows-line, follows-end, Simulates, due-next, next-line}
-use Rattle.translator.proofs.InPieces.{taken-in-pieces, taken-nothing, by-verdict, chosen-true, byte-ends, byte-held, byte-passed, all-lines, whole}
+use Rattle.translator.proofs.InPieces.{lastKept, taken-in-pieces, taken-nothing, by-verdict, chosen-true, byte-ends, byte-held, byte-passed, all-lines, whole}
 
 -- ---- verdicts in turn
 
@@ -161,6 +167,85 @@ ends-translated text t room s l =
       room = left _ _ _ _ room v (end-file (readText text) t s l (length room));
     }
 
+-- ---- a last line adds nothing, or no text ends behind it
+
+either-goes-on : (left : ℕ) (a b : FormatLine) → isEnd (shapeOf a) ≡ false → isEnd (shapeOf b) ≡ false → isEnd (shapeOf (unlessOver left a b)) ≡ false
+either-goes-on left a b f g = ⊎-elim (λ e. rw e g) (λ e. rw e f) (either (eqb left 0))
+
+abbrev GoesOn : FormatLine → Numbers → Position → Type 0
+GoesOn due said p = isEnd (shapeOf (lineDue (movedOn due (said .first) p))) ≡ false
+
+nothing-or-on : (due : FormatLine) (said : Numbers) (k : KeptBodies) (p : Position) → (keepLine due said k ≡ k) ⊎ GoesOn due said p
+unfolding keepLine lineDue movedOn
+nothing-or-on BeginVersion said k p = inl refl
+nothing-or-on Version said k p = inl refl
+nothing-or-on EndVersion said k p = inl refl
+nothing-or-on BeginMetric said k p = inl refl
+nothing-or-on Metric said k p = inl refl
+nothing-or-on EndMetric said k p = inl refl
+nothing-or-on VariableCount said k p = inl refl
+nothing-or-on BeginVariable said k p = inl refl
+nothing-or-on VariableName said k p = inl refl
+nothing-or-on AxiomLayer said k p = inl refl
+nothing-or-on Range said k p = inr (either-goes-on (said .first) AtomName EndVariable refl refl)
+nothing-or-on AtomName said k p = inl refl
+nothing-or-on EndVariable said k p = inl refl
+nothing-or-on MutexGroupCount said k p = inl refl
+nothing-or-on BeginMutexGroup said k p = inl refl
+nothing-or-on MutexFactCount said k p = inl refl
+nothing-or-on MutexFact said k p = inl refl
+nothing-or-on EndMutexGroup said k p = inl refl
+nothing-or-on BeginState said k p = inl refl
+nothing-or-on StateValue said k p = inr (either-goes-on (p .inner - 1) StateValue EndState refl refl)
+nothing-or-on EndState said k p = inl refl
+nothing-or-on BeginGoal said k p = inl refl
+nothing-or-on GoalCount said k p = inl refl
+nothing-or-on GoalFact said k p = inr (either-goes-on (p .inner - 1) GoalFact EndGoal refl refl)
+nothing-or-on EndGoal said k p = inl refl
+nothing-or-on OperatorCount said k p = inl refl
+nothing-or-on BeginOperator said k p = inl refl
+nothing-or-on OperatorName said k p = inl refl
+nothing-or-on PrevailCount said k p = inl refl
+nothing-or-on PrevailCondition said k p = inr (either-goes-on (p .inner - 1) PrevailCondition EffectCount refl refl)
+nothing-or-on EffectCount said k p = inl refl
+nothing-or-on Effect said k p = inr (either-goes-on (p .inner - 1) Effect Cost refl refl)
+nothing-or-on Cost said k p = inr refl
+nothing-or-on EndOperator said k p = inl refl
+nothing-or-on AxiomCount said k p = inl refl
+nothing-or-on EndOfText said k p = inl refl
+
+-- a text that stops early is refused, whatever is kept
+stops-early : (due : FormatLine) (said : Numbers) (i : Intake) (k : Kept) (m : Memory) (line room : List ℕ) → GoesOn due said (i .position)
+    → endWith (taken (readOn due said i k) m line) room ≡ ended (Translation.Refused (AgainstFormat (oneMore (oneMore (i .lines))))) room
+unfolding endWith endVerdict verdictAtEnd stopsEarly judge
+stops-early due said i k m line room f = rw f refl
+
+said-alike : (s : Said) (due : FormatLine) (i : Intake) (m : Memory) (line room : List ℕ)
+    → endWith (taken (lastSaid s due i) m line) room ≡ endWith (afterLine s due i m line) room
+said-alike (Said.Says said) due i m line room =
+    ⊎-elim (λ e. ap (λ k. endWith (taken (readOn due said i (k .kept)) (k .memory) line) room) (sym e))
+    (λ f. stops-early due said i (i .kept) m line room f ∙ sym (stops-early due said i _ _ line room f))
+    (nothing-or-on due said (keptIn (i .kept) m) (i .position))
+said-alike (Said.Refused why) due i m line room = refl
+
+last-alike : (t : Taken) (room : List ℕ) → endWith (lastLine t) room ≡ endWith (lastKept t) room
+unfolding lastLine lastKept endLine
+last-alike t room =
+    let i : Intake = t .intake in
+    let due : FormatLine = lineDue (i .position) in
+    let said : Said = saysAs due (oneMore (i .lines)) (take (i .held) (t .line)) in
+    let judged : Taken = taken (lastSaid said due i) (t .memory) (t .line) in
+    let kept : Taken = afterLine said due i (t .memory) (t .line) in
+    ⊎-elim (λ e. rw e refl)
+    (λ e. rw e
+    (by-verdict (i .verdict) (endWith (unlessRefused (i .verdict) judged t) room ≡ endWith (unlessRefused (i .verdict) kept t) room)
+    (λ v.
+    ap (λ u. endWith u room) (unless-accepted (i .verdict) judged t v)
+    ∙ said-alike said due i (t .memory) (t .line) room
+    ∙ ap (λ u. endWith u room) (sym (unless-accepted (i .verdict) kept t v)))
+    (λ why v. ap (λ u. endWith u room) (unless-refused (i .verdict) why judged t v ∙ sym (unless-refused (i .verdict) why kept t v)))))
+    (either (eqb (i .held) 0))
+
 -- ---- the calls: what is lent stays enough
 
 record Going (t : Taken) : Type 0 where
@@ -240,9 +325,9 @@ call-takes : (t : Taken) (bytes : List ℕ) → Going t → takeCall t bytes ≡
 unfolding takeCall
 call-takes t bytes g = chosen-true (hasRoom t) _ _ (going-room t g)
 
-call-finishes : (t : Taken) (room : List ℕ) → Going t → finishCall t room ≡ endWith (lastLine t) room
+call-finishes : (t : Taken) (room : List ℕ) → Going t → finishCall t room ≡ endWith (lastKept t) room
 unfolding finishCall
-call-finishes t room g = chosen-true (hasRoom t) _ _ (going-room t g)
+call-finishes t room g = chosen-true (hasRoom t) _ _ (going-room t g) ∙ last-alike t room
 
 calls-take : (t : Taken) (parts : List (List ℕ)) → Going t → foldl takeCall t parts ≡ takeAll t (joined parts)
 unfolding joined
@@ -278,7 +363,7 @@ module _ (m : Memory) (line : List ℕ) (h : Lent m) (fits : headRoom ≤ length
       let text : List ℕ = joined parts in
       let t : Taken = taken begun m line in
       rw (calls-take t parts going-begun, call-finishes (takeAll t text) room (going-all t text going-begun))
-      (ends-translated text (lastLine (takeAll t text)) room
+      (ends-translated text (lastKept (takeAll t text)) room
       (whole t text simulates-begun (holds-none headRoom line fits) l)
       (lines-few text l))
 

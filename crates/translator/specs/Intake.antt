@@ -265,11 +265,20 @@ takeCall t bytes = cond (hasRoom t) (takeAll t bytes) (taken (refusedFor (Refuse
 abbrev pub begun : Intake
 begun = record { position = firstPosition; lines = 0; verdict = Accepted; kept = nothingKept; held = 0 }
 
--- ---- the end
+-- ---- the end: what is lent for the reading stays as it is
+
+-- a last line is judged and not kept: one that adds something ends no text
+abbrev pub lastSaid : Said → (due : FormatLine) → Intake → Intake
+lastSaid (Said.Says said) due i = readOn due said i (i .kept)
+lastSaid (Said.Refused why) due i = stoppedFor why i
 
 -- what is held of a last line without LF is a line
 unfoldable pub lastLine : Taken → Taken
-lastLine t = cond (eqb (t .intake .held) 0) t (endLine t)
+lastLine t =
+    let i : Intake = t .intake in
+    cond (eqb (i .held) 0) t
+    (unlessRefused (i .verdict)
+    (taken (lastSaid (saysAs (lineDue (i .position)) (oneMore (i .lines)) (take (i .held) (t .line))) (lineDue (i .position)) i) (t .memory) (t .line)) t)
 
 unfoldable pub rulesKept : Kept → Memory → Verdict
 rulesKept k m =
@@ -299,20 +308,19 @@ abbrev pub translation : Verdict → (length : ℕ) → Translation
 translation Accepted length = Translation.Written length
 translation (Refused why) length = Translation.Refused why
 
--- the answer, and all that is lent
+-- the answer, and the lent room
 pub record Ended : Type 0 where
   pub answer : Translation
-  pub memory : Memory
   pub room : List ℕ
 
-abbrev pub ended : Translation → Memory → List ℕ → Ended
-ended answer m room = record { answer = answer; memory = m; room = room }
+abbrev pub ended : Translation → List ℕ → Ended
+ended answer room = record { answer = answer; room = room }
 
 unfoldable pub endWith : Taken → (room : List ℕ) → Ended
 endWith t room =
     let v : Verdict = endVerdict t (length room) in
     let file : List ℕ = fileKept (t .intake .kept) (t .memory) in
-    ended (translation v (length file)) (t .memory) (lentAfter v file room)
+    ended (translation v (length file)) (lentAfter v file room)
 
 -- what is answered at the end, and what is left in the room
 pub record EndsWith (i : Intake) (m : Memory) (room : List ℕ) (answer : Translation) (after : List ℕ) : Type 0 where
@@ -320,4 +328,4 @@ pub record EndsWith (i : Intake) (m : Memory) (room : List ℕ) (answer : Transl
   pub leaves : after ≡ lentAfter (verdictAtEnd i m (length room)) (fileKept (i .kept) m) room
 
 unfoldable pub finishCall : Taken → (room : List ℕ) → Ended
-finishCall t room = cond (hasRoom t) (endWith (lastLine t) room) (ended (Translation.Refused Room) (t .memory) room)
+finishCall t room = cond (hasRoom t) (endWith (lastLine t) room) (ended (Translation.Refused Room) room)

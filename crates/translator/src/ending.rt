@@ -1,7 +1,7 @@
 // The end of a text: its last line, the verdict on what was read, and the task file in lent room.
 use crate::intake::Intake;
 use crate::intake::Translation;
-use crate::lines::end_line;
+use crate::lines::last_line;
 use crate::lines::one_more;
 use crate::position::Position;
 use crate::position::line_due;
@@ -23,26 +23,7 @@ ghost use Rattle.rules.specs.Translation.{isEnd};
 ghost use Rattle.rules.specs.declared.Verdict.the-variants.{Accepted};
 ghost use Rattle.writer.specs.Laid.{fileLength};
 ghost use Rattle.bodies.specs.Keeping.{Sound};
-ghost use Rattle.translator.specs.Intake.{memory, Lent, taken, Ready, lastLine, rulesKept, fileKept, verdictKept, stopsEarly, verdictAtEnd, EndsWith, ended, finishCall};
-
-// What is held of a last line without LF is a line.
-fn last_line(
-    state: Intake,
-    sizes: &mut [u8],
-    start: &mut [u8],
-    goal: &mut [u8],
-    actions: &mut [u8],
-    line: &[u8],
-) -> Intake
-    requires { ⌜ Ready (taken state (memory (now sizes) (now start) (now goal) (now actions)) (now line)) ⌝ }
-    ensures last { λ r. ⌜ taken r (memory (now (sizes .exit)) (now (start .exit)) (now (goal .exit)) (now (actions .exit))) (now (line .entry)) ≡ lastLine (taken state (memory (now (sizes .entry)) (now (start .entry)) (now (goal .entry)) (now (actions .entry))) (now (line .entry))) ⌝ }
-    ensures fits { λ r. ⌜ Sound (r .kept) × Lent (memory (now (sizes .exit)) (now (start .exit)) (now (goal .exit)) (now (actions .exit))) ⌝ }
-{
-    if state.held == 0 {
-        return state;
-    }
-    end_line(state, sizes, start, goal, actions, line)
-}
+ghost use Rattle.translator.specs.Intake.{memory, Lent, taken, Ready, lastLine, rulesKept, fileKept, verdictKept, stopsEarly, verdictAtEnd, EndsWith, ended, endWith, hasRoom, finishCall};
 
 fn is_end(due: FormatLine) -> bool
     ensures { λ r. ⌜ r ≡ isEnd (shapeOf due) ⌝ }
@@ -205,19 +186,35 @@ fn end_with(
     }
 }
 
-// The end of a text: its task file in the room, or the refusal, which leaves the room as found.
-pub fn finish(
+// The end of a reading that has room: its last line, then the answer.
+fn end_reading(
     state: Intake,
-    sizes: &mut [u8],
-    start: &mut [u8],
-    goal: &mut [u8],
-    actions: &mut [u8],
+    sizes: &[u8],
+    start: &[u8],
+    goal: &[u8],
+    actions: &[u8],
     line: &[u8],
     room: &mut [u8],
 ) -> Translation
-    ensures { λ r. ⌜ ended r (memory (now (sizes .exit)) (now (start .exit)) (now (goal .exit)) (now (actions .exit))) (now (room .exit)) ≡ finishCall (taken state (memory (now (sizes .entry)) (now (start .entry)) (now (goal .entry)) (now (actions .entry))) (now (line .entry))) (now (room .entry)) ⌝ }
+    requires { ⌜ Ready (taken state (memory (now sizes) (now start) (now goal) (now actions)) (now line)) ⌝ }
+    ensures { λ r. ⌜ ended r (now (room .exit)) ≡ endWith (lastLine (taken state (memory (now (sizes .entry)) (now (start .entry)) (now (goal .entry)) (now (actions .entry))) (now (line .entry)))) (now (room .entry)) ⌝ }
 {
-    if !has_room(
+    let last = last_line(state, line);
+    end_with(last, sizes, start, goal, actions, room)
+}
+
+// Whether what is lent is room for a reading.
+fn has_room_for(
+    state: Intake,
+    sizes: &[u8],
+    start: &[u8],
+    goal: &[u8],
+    actions: &[u8],
+    line: &[u8],
+) -> bool
+    ensures { λ r. ⌜ r ≡ hasRoom (taken state (memory (now (sizes .entry)) (now (start .entry)) (now (goal .entry)) (now (actions .entry))) (now (line .entry))) ⌝ }
+{
+    has_room(
         state.kept,
         state.held,
         sizes.len(),
@@ -225,9 +222,23 @@ pub fn finish(
         goal.len(),
         actions.len(),
         line.len(),
-    ) {
+    )
+}
+
+// The end of a text: its task file in the room, or the refusal, which leaves the room as found.
+pub fn finish(
+    state: Intake,
+    sizes: &[u8],
+    start: &[u8],
+    goal: &[u8],
+    actions: &[u8],
+    line: &[u8],
+    room: &mut [u8],
+) -> Translation
+    ensures { λ r. ⌜ ended r (now (room .exit)) ≡ finishCall (taken state (memory (now (sizes .entry)) (now (start .entry)) (now (goal .entry)) (now (actions .entry))) (now (line .entry))) (now (room .entry)) ⌝ }
+{
+    if !has_room_for(state, sizes, start, goal, actions, line) {
         return Translation::Refused(Refusal::Room);
     }
-    let last = last_line(state, sizes, start, goal, actions, line);
-    end_with(last, sizes, start, goal, actions, room)
+    end_reading(state, sizes, start, goal, actions, line, room)
 }

@@ -11,8 +11,9 @@ use textlines::Said;
 ghost use mathlib.Core.Path.{_≡_};
 ghost use mathlib.Core.List.{List};
 ghost use Prim.Native.Nat.{ℕ, _≤_};
+ghost use lib.ListN.{length};
 ghost use Rattle.bodies.specs.Keeping.{Sound};
-ghost use Rattle.translator.specs.Intake.{memory, Lent, keptIn, keepLine, oneMore, headRoom, taken, Ready, readOn, stoppedFor, afterLine, endLine};
+ghost use Rattle.translator.specs.Intake.{Memory, memory, Lent, keptIn, keepLine, oneMore, headRoom, taken, Ready, readOn, stoppedFor, afterLine, endLine, lastSaid, lastLine};
 
 // A count of lines stays at the largest number that there is.
 pub(crate) fn one_more(lines: usize) -> usize
@@ -107,4 +108,49 @@ pub(crate) fn end_line(
     let due = line_due(state.position);
     let said = textlines::says(due, one_more(state.lines), &line[..held]);
     after_line(state, due, said, sizes, start, goal, actions)
+}
+
+// A last line that was in order has been read: it ends the text, or the text stops early, and what it adds matters to neither.
+fn read_last(state: Intake, due: FormatLine, said: Numbers) -> Intake
+    ensures { λ r. ⌜ r ≡ readOn due said state (state .kept) ⌝ }
+{
+    let position = moved_on(due, said.first, state.position);
+    let lines = one_more(state.lines);
+    let kept = state.kept;
+    Intake {
+        position,
+        lines,
+        verdict: Verdict::Accepted,
+        kept,
+        held: 0,
+    }
+}
+
+// What a last line said decides.
+fn last_said(state: Intake, due: FormatLine, said: Said) -> Intake
+    ensures { λ r. ⌜ r ≡ lastSaid said due state ⌝ }
+{
+    match said {
+        Said::Refused(why) => stopped(state, why),
+        Said::Says(numbers) => read_last(state, due, numbers),
+    }
+}
+
+// What is held of a last line without LF is a line; it is judged and not kept.
+pub(crate) fn last_line(state: Intake, line: &[u8]) -> Intake
+    requires { ⌜ (state .held ≤ headRoom) × (headRoom ≤ length (now line)) ⌝ }
+    ensures last { λ r. ⌜ ((m : Memory) → taken r m (now (line .entry)) ≡ lastLine (taken state m (now (line .entry)))) ⌝ }
+    ensures kept { λ r. ⌜ r .kept ≡ state .kept ⌝ }
+{
+    let held = state.held;
+    if held == 0 {
+        return state;
+    }
+    let verdict = state.verdict;
+    let Verdict::Accepted = verdict else {
+        return state;
+    };
+    let due = line_due(state.position);
+    let said = textlines::says(due, one_more(state.lines), &line[..held]);
+    last_said(state, due, said)
 }

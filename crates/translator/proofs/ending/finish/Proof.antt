@@ -1,8 +1,7 @@
 -- `finish` meets its contract.
 -- Assumes nothing.
 use borrow.Author.Needs.{needs}
-use Rattle.translator.proofs.RoomLaws.{room-ready}
-use Rattle.translator.proofs.EndLaws.{finish-short, finish-ends}
+use Rattle.translator.proofs.EndLaws.{has-ready, finish-short, finish-ends}
 use Rattle.translator.proofs.ending.finish.Statement.{statement}
 use Rattle.translator.proofs.ending.finish.Tie as tie
 
@@ -12,11 +11,6 @@ finish-spec =
     (tie.spec
     (λ c κs. search needs)
     (λ c. search (needs, finish-short))
-    (λ c κs. search (needs, room-ready))
-    (λ c κs. search needs)
-    (λ c. search needs)
-    (λ c. search needs)
-    (λ c. search needs)
-    (λ c. search needs)
+    (λ c κs. search (needs, has-ready))
     (λ c. search needs)
     (λ c. search (needs, finish-ends)))
