@@ -1,13 +1,11 @@
 // Pairs in lent bytes, in rising order of variable: one more is put among them, behind equal ones.
+use reader::limits::PAIR_BYTES;
 ghost use mathlib.Core.Path.{_≡_};
 ghost use Prim.Native.Nat.{_+_, _*_, _≤_};
 ghost use lib.ListN.{length};
 ghost use Rattle.rules.specs.Limits.{pairBytes};
-ghost use Rattle.rules.specs.Task.{Pair};
 ghost use Rattle.bodies.specs.Keeping.{withPair};
 ghost use Rattle.bodies.specs.InOrder.{placeOf, movedUp};
-
-const PAIR_BYTES: usize = 2;
 
 // The first of the pairs that has a larger variable, or how many there are.
 fn place_of(s: &[u8], at: usize, count: usize, variable: u8) -> usize

@@ -2,23 +2,17 @@
 // is outside every domain. What is kept has to be sound and the lent memory to have room: the callers see to both.
 mod in_order;
 
+use reader::limits::COUNT_BYTES;
+use reader::limits::MAX_ACTIONS;
+use reader::limits::MAX_GOALS;
+use reader::limits::MAX_PAIRS;
+use reader::limits::MAX_VARIABLES;
+use reader::limits::PAIR_BYTES;
 ghost use mathlib.Core.Path.{_≡_};
 ghost use Prim.Native.Nat.{_≤_};
 ghost use lib.ListN.{length};
 ghost use Rattle.rules.specs.Limits.{maxVariables};
 ghost use Rattle.bodies.specs.Keeping.{Sound, keeps, nothingKept, oneFits, excessWith, noMore, asByte, goalRoom, actionsRoom, keepSize, keepStart, keepGoal, keepPrecondition, keepEffect, keepAction};
-
-const MAX_VARIABLES: usize = 96;
-
-const MAX_GOALS: usize = 96;
-
-const MAX_ACTIONS: usize = 512;
-
-const MAX_PAIRS: usize = 8;
-
-const PAIR_BYTES: usize = 2;
-
-const COUNT_BYTES: usize = 2;
 
 const LARGEST_BYTE: u8 = 255;
 

@@ -1,15 +1,15 @@
 -- The end of a text: its last line, the verdict, and the file.
 -- Assumes nothing.
-use Prim.Native.Nat.{ℕ, _+_, _*_, _≤_, _<_}
+use Prim.Native.Nat.{ℕ, _*_, _≤_, _<_}
 use mathlib.Core.Path.{_≡_, refl, sym, ap, _∙_}
 use mathlib.Core.Bool.{Bool, true, false, not}
-use mathlib.Core.List.{List, [], _∷_, _++_}
+use mathlib.Core.List.{List, [], _∷_}
 use native.Mathlib.Omega.{arith}
 use borrow.Author.Tests.{leb-true, le-leb, lt-leb}
 use denote.Enum.Declared.{tagOf}
 use types.Run.{OneOf, miss}
 use lib.Dec.{leb}
-use lib.ListN.{length, take, drop}
+use lib.ListN.{length, take}
 use lib.Seq.{length-take-le}
 use Rattle.rules.specs.Limits.{pairBytes, maxFile}
 use Rattle.rules.specs.Answers.{judge, demand, inTurn}
@@ -24,7 +24,7 @@ use Rattle.rules.specs.declared.FormatLine.{FormatLine}
 use Rattle.rules.specs.declared.FormatLine.the-variants.{BeginVersion, Version, EndVersion, BeginMetric, Metric, EndMetric, VariableCount, BeginVariable, VariableName, AxiomLayer, Range, AtomName, EndVariable, MutexGroupCount, BeginMutexGroup, MutexFactCount, MutexFact, EndMutexGroup, BeginState, StateValue, EndState, BeginGoal, GoalCount, GoalFact, EndGoal, OperatorCount, BeginOperator, OperatorName, PrevailCount, PrevailCondition, EffectCount, Effect, Cost, EndOperator, AxiomCount, EndOfText}
 use Rattle.rules.proofs.FormatLine.{the-type}
 use Rattle.rules.proofs.Bools.{not-true, not-false}
-use Rattle.rules.proofs.Judging.{judge-nil, judge-refused, judge-passed, judge-head, inTurn-left, inTurn-right, refused-not}
+use Rattle.rules.proofs.Judging.{judge-nil, judge-refused, judge-passed, judge-head, inTurn-right, refused-not}
 use Rattle.reader.specs.Bodies.{bodiesRules}
 use Rattle.digits.specs.Over.{over}
 use Rattle.writer.specs.Laid.{fileLength, laidOut}

@@ -11,8 +11,8 @@ use Rattle.rules.specs.declared.FormatLine.the-variants.{BeginVersion, Version,
 use Rattle.textlines.specs.declared.OldValue.{OldValue}
 use Rattle.textlines.specs.declared.Numbers.{Numbers}
 use Rattle.bodies.specs.declared.Kept.{Kept}
-use Rattle.bodies.specs.Keeping.{Keeping, keeps, keepSize, keepStart, keepGoal, keepPrecondition, keepEffect, keepAction}
-use Rattle.translator.specs.Intake.{Memory, memory, KeptBodies, keptIn, pairOf, keepOld, effectKept, keepLine}
+use Rattle.bodies.specs.Keeping.{keeps, keepSize, keepStart, keepGoal, keepPrecondition, keepEffect, keepAction}
+use Rattle.translator.specs.Intake.{memory, KeptBodies, keptIn, pairOf, keepOld, effectKept, keepLine}
 
 -- ---- an effect
 

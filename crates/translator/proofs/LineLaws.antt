@@ -17,7 +17,7 @@ use Rattle.textlines.specs.declared.Said.{Said}
 use Rattle.bodies.specs.Keeping.{Sound, nothingKept}
 use Rattle.bodies.specs.declared.Kept.{Kept}
 use Rattle.translator.specs.Position.{firstPosition, lineDue, movedOn}
-use Rattle.translator.specs.Intake.{Memory, KeptBodies, keptIn, keepLine, oneMore, readOn, stoppedFor, afterLine, headRoom, taken, unlessRefused, endLine, begun, lastSaid, lastLine}
+use Rattle.translator.specs.Intake.{Memory, keptIn, keepLine, oneMore, readOn, stoppedFor, afterLine, headRoom, taken, unlessRefused, endLine, begun, lastSaid, lastLine}
 use Rattle.translator.specs.declared.position.Position.{Position}
 use Rattle.translator.specs.declared.intake.Intake.{Intake}
 

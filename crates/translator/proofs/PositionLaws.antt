@@ -1,7 +1,7 @@
 -- Positions: what an arm of a match on a line of the format gives is what the definition gives.
 -- Assumes nothing.
 use Prim.Native.Nat.{ℕ, _-_}
-use mathlib.Core.Path.{_≡_, refl}
+use mathlib.Core.Path.{_≡_, refl, _∙_}
 use mathlib.Core.List.{List, [], _∷_}
 use denote.Enum.Declared.{tagOf}
 use types.Run.{OneOf, miss}
@@ -21,9 +21,10 @@ module _ (left : ℕ) (repeat behind : FormatLine) where
   pub not-over : (left ≡ 0 → ⊥) → repeat ≡ unlessOver left repeat behind
   not-over e = rw (ne-eqb left 0 e)
 
-pub due-in : (p : Position) (r line : FormatLine) → p .line ≡ line → r ≡ dueIn line (p .inner) (p .outer) → r ≡ lineDue p
+pub due-in : (p : Position) (r line behind : FormatLine) (left : ℕ) → p .line ≡ line → r ≡ unlessOver left (p .line) behind
+    → unlessOver left line behind ≡ dueIn line (p .inner) (p .outer) → r ≡ lineDue p
 unfolding lineDue
-due-in p r line e h = rw e h
+due-in p r line behind left e h k = h ∙ rw e k
 
 -- the numbers of the lines that are never repeated
 abbrev single : List ℕ

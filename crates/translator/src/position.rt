@@ -40,39 +40,15 @@ pub(crate) fn line_due(p: Position) -> FormatLine
 {
     let line = p.line;
     match line {
-        FormatLine::BeginVariable => unless_over(
-            p.outer,
-            FormatLine::BeginVariable,
-            FormatLine::MutexGroupCount,
-        ),
-        FormatLine::AtomName => unless_over(p.inner, FormatLine::AtomName, FormatLine::EndVariable),
-        FormatLine::BeginMutexGroup => unless_over(
-            p.outer,
-            FormatLine::BeginMutexGroup,
-            FormatLine::BeginState,
-        ),
-        FormatLine::MutexFact => unless_over(
-            p.inner,
-            FormatLine::MutexFact,
-            FormatLine::EndMutexGroup,
-        ),
-        FormatLine::StateValue => unless_over(
-            p.inner,
-            FormatLine::StateValue,
-            FormatLine::EndState,
-        ),
-        FormatLine::GoalFact => unless_over(p.inner, FormatLine::GoalFact, FormatLine::EndGoal),
-        FormatLine::BeginOperator => unless_over(
-            p.outer,
-            FormatLine::BeginOperator,
-            FormatLine::AxiomCount,
-        ),
-        FormatLine::PrevailCondition => unless_over(
-            p.inner,
-            FormatLine::PrevailCondition,
-            FormatLine::EffectCount,
-        ),
-        FormatLine::Effect => unless_over(p.inner, FormatLine::Effect, FormatLine::Cost),
+        FormatLine::BeginVariable => unless_over(p.outer, line, FormatLine::MutexGroupCount),
+        FormatLine::AtomName => unless_over(p.inner, line, FormatLine::EndVariable),
+        FormatLine::BeginMutexGroup => unless_over(p.outer, line, FormatLine::BeginState),
+        FormatLine::MutexFact => unless_over(p.inner, line, FormatLine::EndMutexGroup),
+        FormatLine::StateValue => unless_over(p.inner, line, FormatLine::EndState),
+        FormatLine::GoalFact => unless_over(p.inner, line, FormatLine::EndGoal),
+        FormatLine::BeginOperator => unless_over(p.outer, line, FormatLine::AxiomCount),
+        FormatLine::PrevailCondition => unless_over(p.inner, line, FormatLine::EffectCount),
+        FormatLine::Effect => unless_over(p.inner, line, FormatLine::Cost),
         _ => line,
     }
 }
