@@ -1,4 +1,4 @@
--- What is proved of the rules. Demands, Figures, Table and Translated are the pages to read; the rest is how.
+-- What is proved of the rules. Demands, Figures, Table, Translated and TextOfTask are the pages to read; the rest is how.
 pub mod Bools
 pub mod Counting
 pub mod Judging
@@ -41,3 +41,4 @@ pub mod AtCalls
 pub mod LinesInOrder
 pub mod Translated
 pub mod TranslatorRuns
+pub mod TextOfTask

@@ -1,25 +1,25 @@
 -- Lines of the translator's text that are in order: each kind is read as what it says, and lines are read one behind the other.
 -- Assumes nothing.
-use mathlib.Core.Path.{_≡_, refl, sym, ap, _∙_}
+use mathlib.Core.Path.{_≡_, refl, ap, _∙_}
 use mathlib.Core.Logic.{_⊎_, inl, inr, ⊎-elim}
-use mathlib.Core.Bool.{Bool, true, false, not, _&&_, _||_}
-use mathlib.Core.List.{List, [], _∷_, _++_, foldl, foldl-append, map}
+use mathlib.Core.Bool.{true, not, _||_}
+use mathlib.Core.List.{List, [], _∷_, _++_, foldl, foldl-append}
 use Prim.Native.Nat.{ℕ, suc, _+_, _^_, _<_}
 use native.Mathlib.Omega.{arith}
 use borrow.Author.Tests.{le-leb, eq-eqb, ne-eqb}
-use lib.Dec.{leb, eqb, lit<}
-use lib.ListN.{length, getD, length-append}
-use Rattle.rules.specs.Counting.{every, times}
+use lib.Dec.{eqb, lit<}
+use lib.ListN.{length, length-append}
+use Rattle.rules.specs.Counting.{every}
 use Rattle.rules.specs.Limits.{maxTextDigits}
 use Rattle.rules.specs.Answers.{judge}
-use Rattle.rules.specs.Task.{Pair, pair}
+use Rattle.rules.specs.Task.{Pair}
 use Rattle.rules.specs.File.{byte}
 use Rattle.rules.specs.Text.{ascii, lf, space, digit0, decimal}
-use Rattle.rules.specs.Lines.{pieces, isDigit, valueFrom, agree, same}
-use Rattle.rules.specs.Format.{Stated, Shape, keyword, name, layer, number, fact, effect, axiomCount, withEffect, withPrecondition, shapeOf, wordAt, wordCount, isPlain, isMinusOne, numberAt, lineNumber, lineRules, linesAnnounced, stated}
-use Rattle.rules.specs.Translation.{TextReading, shapeDue, lineRead, readTextLine, readFurther}
+use Rattle.rules.specs.Lines.{pieces, agree, same}
+use Rattle.rules.specs.Format.{Stated, Shape, keyword, name, layer, number, fact, effect, axiomCount, withEffect, shapeOf, wordAt, wordCount, isPlain, isMinusOne, numberAt, lineNumber, lineRules, linesAnnounced, stated}
+use Rattle.rules.specs.Translation.{TextReading, shapeDue, readTextLine, readFurther}
 use Rattle.rules.specs.declared.FormatLine.{FormatLine}
-use Rattle.rules.specs.declared.FormatLine.the-variants.{AxiomLayer, Effect, AxiomCount, EndOfText}
+use Rattle.rules.specs.declared.FormatLine.the-variants.{AxiomLayer, Effect, AxiomCount}
 use Rattle.rules.specs.declared.Verdict.the-variants.{Accepted}
 use Rattle.rules.proofs.Bools.{and-both, or-left, or-right, below-or}
 use Rattle.rules.proofs.Counting.{every-one, every-append}

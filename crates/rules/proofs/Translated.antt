@@ -4,7 +4,7 @@
 use mathlib.Core.Path.{_≡_, refl, sym, ap, _∙_}
 use mathlib.Core.Logic.{_↔_}
 use mathlib.Core.Bool.{true}
-use mathlib.Core.List.{List, [], _∷_, _++_}
+use mathlib.Core.List.{List, _++_}
 use Prim.Native.Nat.{ℕ, _≤_}
 use native.Mathlib.Omega.{arith}
 use borrow.Author.Tests.{leb-true, le-leb}
@@ -18,7 +18,6 @@ use Rattle.rules.specs.Problem.{problem}
 use Rattle.rules.specs.Calls.{problemOf, roomRule}
 use Rattle.rules.specs.Translation.{textVerdict, textTask, statedVerdict, translationVerdict, translationAfter}
 use Rattle.rules.specs.declared.Refusal.{Refusal}
-use Rattle.rules.specs.declared.Verdict.{Verdict}
 use Rattle.rules.specs.declared.Verdict.the-variants.{Accepted, Refused}
 use Rattle.rules.proofs.Judging.{judge-append, judge-head, judge-cons, judge-nil, inTurn-left, inTurn-right, inTurn-both}
 use Rattle.rules.proofs.Valid.{valid-well-formed}

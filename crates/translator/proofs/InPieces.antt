@@ -59,7 +59,7 @@ lines-stay reading why [] e = refl
 lines-stay reading why (l ∷ ls) e =
     ap (λ r. foldl step r ls) (ap (λ v. readFurther v reading l) e) ∙ lines-stay reading why ls e
 
-bytes-stay : (t : Taken) (why : Refusal) (bytes : List ℕ) → t .intake .verdict ≡ Refused why → takeAll t bytes ≡ t
+pub bytes-stay : (t : Taken) (why : Refusal) (bytes : List ℕ) → t .intake .verdict ≡ Refused why → takeAll t bytes ≡ t
 unfolding takeAll takeByte
 bytes-stay t why [] e = refl
 bytes-stay t why (b ∷ bytes) e =

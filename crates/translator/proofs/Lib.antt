@@ -1,6 +1,8 @@
 -- What is proved of the reader of the translator's text.
 pub mod KeepLaws
 pub mod LineLaws
+pub mod ByteLaws
+pub mod RoomLaws
 pub mod PositionLaws
 pub mod Stack
 pub mod Stages

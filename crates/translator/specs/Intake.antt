@@ -206,13 +206,33 @@ takeByte t b =
 unfoldable pub takeAll : Taken → List ℕ → Taken
 takeAll t bytes = foldl takeByte t bytes
 
--- bytes from a place on that are held, up to an LF or the end: what is left comes to the same
+-- a byte that is no LF is held, or passed over: for every reading what it is when it takes that byte
+pub record HeldOn (held : ℕ) (line : List ℕ) (b heldThen : ℕ) (lineThen : List ℕ) : Type 0 where
+  pub fits : heldThen ≤ headRoom
+  pub same : (i : Intake) (m : Memory) → i .verdict ≡ Accepted → (b ≡ lf → ⊥)
+      → takeByte (taken (withHeld held i) m line) b ≡ taken (withHeld heldThen i) m lineThen
+
+-- bytes from a place on are held, up to an LF or the end: for every reading what is left comes to the same
+unfoldable pub SameRest : (bytes : List ℕ) (at held : ℕ) (line : List ℕ) (end heldThen : ℕ) (lineThen : List ℕ) → Type 0
+SameRest bytes at held line end heldThen lineThen =
+    (i : Intake) (m : Memory) → i .verdict ≡ Accepted
+    → takeAll (taken (withHeld heldThen i) m lineThen) (drop end bytes) ≡ takeAll (taken (withHeld held i) m line) (drop at bytes)
+
 pub record HeldUpTo (bytes : List ℕ) (at held : ℕ) (line : List ℕ) (end heldThen : ℕ) (lineThen : List ℕ) : Type 0 where
+  pub from : at ≤ end
   pub within : end ≤ length bytes
   pub ends : end < length bytes → getD bytes end 0 ≡ lf
   pub fits : heldThen ≤ headRoom
-  pub rest : (i : Intake) (m : Memory) → i .verdict ≡ Accepted
-      → takeAll (taken (withHeld heldThen i) m lineThen) (drop end bytes) ≡ takeAll (taken (withHeld held i) m line) (drop at bytes)
+  pub rest : SameRest bytes at held line end heldThen lineThen
+
+-- a reading goes on so, and nothing but what is held changes
+pub record HeldLine (i : Intake) (line bytes : List ℕ) (at : ℕ) (then : Intake) (end : ℕ) (lineThen : List ℕ) : Type 0 where
+  pub from : at ≤ end
+  pub within : end ≤ length bytes
+  pub ends : end < length bytes → (getD bytes end 0 ≡ lf) × (then .verdict ≡ Accepted)
+  pub fits : then .held ≤ headRoom
+  pub kept : then .kept ≡ i .kept
+  pub rest : (m : Memory) → takeAll (taken then m lineThen) (drop end bytes) ≡ takeAll (taken i m line) (drop at bytes)
 
 -- ---- the calls: a reading that asks for more than there can be is refused for room
 
@@ -228,10 +248,13 @@ unfoldable pub lentFits : (sizes start goal actions line : ℕ) → Bool
 lentFits sizes start goal actions line =
     leb maxVariables sizes && leb maxVariables start && leb goalRoom goal && leb actionsRoom actions && leb headRoom line
 
+unfoldable pub roomFor : Kept → (held sizes start goal actions line : ℕ) → Bool
+roomFor k held sizes start goal actions line = countsFit k && leb held headRoom && lentFits sizes start goal actions line
+
 unfoldable pub hasRoom : Taken → Bool
 hasRoom t =
-    countsFit (t .intake .kept) && leb (t .intake .held) headRoom
-    && lentFits (length (t .memory .sizes)) (length (t .memory .start)) (length (t .memory .goal)) (length (t .memory .actions)) (length (t .line))
+    roomFor (t .intake .kept) (t .intake .held) (length (t .memory .sizes)) (length (t .memory .start)) (length (t .memory .goal)) (length (t .memory .actions))
+    (length (t .line))
 
 abbrev pub refusedFor : Verdict → Intake → Intake
 refusedFor verdict i = record { position = i .position; lines = i .lines; verdict = verdict; kept = i .kept; held = i .held }

@@ -1,29 +1,19 @@
 // A whole text in pieces: lines are read as they end; of the line that has begun, its first bytes are held, which decide it.
-use crate::keeping::keep_line;
+use crate::lines::end_line;
 use crate::position::Position;
 use crate::position::first_position;
-use crate::position::line_due;
-use crate::position::moved_on;
+use crate::room::HEAD_ROOM;
+use crate::room::has_room;
 use bodies::Kept;
-use reader::limits::MAX_GOALS;
-use reader::limits::MAX_PAIRS;
-use reader::limits::MAX_VARIABLES;
-use reader::limits::PAIR_BYTES;
-use rules::FormatLine;
 use rules::Refusal;
 use rules::Verdict;
-use textlines::Numbers;
-use textlines::Said;
 ghost use mathlib.Core.Path.{_≡_};
-ghost use mathlib.Core.List.{List};
-ghost use Prim.Native.Nat.{ℕ, _≤_, _<_};
+ghost use Prim.Native.Nat.{_≤_, _<_};
 ghost use lib.ListN.{length, drop};
-ghost use Rattle.rules.specs.declared.Verdict.the-variants.{Accepted};
+ghost use Rattle.rules.specs.declared.Refusal.the-variants.{Room};
+ghost use Rattle.rules.specs.declared.Verdict.the-variants.{Refused};
 ghost use Rattle.bodies.specs.Keeping.{Sound};
-ghost use Rattle.translator.specs.Intake.{memory, Lent, keptIn, headRoom, taken, Ready, oneMore, keepLine, readOn, stoppedFor, afterLine, endLine, withHeld, takeAll, HeldUpTo, actionsFit, countsFit, lentFits, hasRoom, takeCall, begun};
-
-// How many bytes of a line are held.
-pub const HEAD_ROOM: usize = 32;
+ghost use Rattle.translator.specs.Intake.{memory, headRoom, taken, Ready, withHeld, takeAll, HeldOn, HeldUpTo, HeldLine, refusedFor, takeCall, begun};
 
 // How far a text is read: where in the format, how many lines, the first fault if there was one, what is kept, and how many bytes are held of the line
 // that has begun.
@@ -41,6 +31,18 @@ pub enum Translation {
     Refused(Refusal),
 }
 
+// How far the bytes of a line go, and how many are held then.
+struct Stop {
+    at: usize,
+    held: usize,
+}
+
+// A reading, and the next byte that it has not taken.
+struct Further {
+    reading: Intake,
+    at: usize,
+}
+
 // No byte has been taken.
 pub fn begin() -> Intake
     ensures { λ r. ⌜ r ≡ begun ⌝ }
@@ -54,97 +56,141 @@ pub fn begin() -> Intake
     }
 }
 
-// A count of lines stays at the largest number that there is.
-pub(crate) fn one_more(lines: usize) -> usize
-    ensures { λ r. ⌜ r ≡ oneMore lines ⌝ }
+// One more byte of the line that has begun is held, if it is among its first.
+fn hold_byte(line: &mut [u8], held: usize, b: u8) -> usize
+    requires { ⌜ (held ≤ headRoom) × (headRoom ≤ length (now line)) ⌝ }
+    ensures { λ r. ⌜ HeldOn held (now (line .entry)) b r (now (line .exit)) ⌝ }
 {
-    if lines == usize::MAX {
-        return lines;
+    if held < HEAD_ROOM {
+        line[held] = b;
+        return held + 1;
     }
-    lines + 1
+    held
 }
 
-// A line that was in order has been read: what it adds is kept, and the next is due.
-fn read_on(
+// The bytes from a place on, up to an LF or the end.
+fn hold(line: &mut [u8], held: usize, bytes: &[u8], at: usize) -> Stop
+    requires { ⌜ (held ≤ headRoom) × (headRoom ≤ length (now line)) × (at ≤ length (now bytes)) ⌝ }
+    ensures { λ r. ⌜ HeldUpTo (now (bytes .entry)) at held (now (line .entry)) (r .at) (r .held) (now (line .exit)) ⌝ }
+{
+    let mut i = at;
+    let mut h = held;
+    while i < bytes.len() {
+        let b = bytes[i];
+        if b == b'\n' {
+            return Stop { at: i, held: h };
+        }
+        h = hold_byte(line, h, b);
+        i += 1;
+    }
+    Stop { at: i, held: h }
+}
+
+fn with_held(state: Intake, held: usize) -> Intake
+    ensures { λ r. ⌜ r ≡ withHeld held state ⌝ }
+{
+    let position = state.position;
+    let verdict = state.verdict;
+    let kept = state.kept;
+    Intake {
+        position,
+        lines: state.lines,
+        verdict,
+        kept,
+        held,
+    }
+}
+
+// The line that has begun goes on, up to an LF or the end of the bytes; behind a fault they are passed over.
+fn hold_line(state: Intake, line: &mut [u8], bytes: &[u8], at: usize) -> Further
+    requires { ⌜ (state .held ≤ headRoom) × (headRoom ≤ length (now line)) × (at ≤ length (now bytes)) ⌝ }
+    ensures { λ r. ⌜ HeldLine state (now (line .entry)) (now (bytes .entry)) at (r .reading) (r .at) (now (line .exit)) ⌝ }
+{
+    let verdict = state.verdict;
+    let Verdict::Accepted = verdict else {
+        return Further {
+            reading: state,
+            at: bytes.len(),
+        };
+    };
+    let stop = hold(line, state.held, bytes, at);
+    Further {
+        reading: with_held(state, stop.held),
+        at: stop.at,
+    }
+}
+
+// The bytes from a place on, up to the end of a line and with its LF.
+fn take_line(
+    bytes: &[u8],
+    at: usize,
     state: Intake,
-    due: FormatLine,
-    said: Numbers,
     sizes: &mut [u8],
     start: &mut [u8],
     goal: &mut [u8],
     actions: &mut [u8],
-) -> Intake
-    requires { ⌜ Sound (state .kept) × Lent (memory (now sizes) (now start) (now goal) (now actions)) ⌝ }
-    ensures stands { λ r. ⌜ r ≡ readOn due said state (r .kept) ⌝ }
-    ensures kept { λ r. ⌜ keptIn (r .kept) (memory (now (sizes .exit)) (now (start .exit)) (now (goal .exit)) (now (actions .exit))) ≡ keepLine due said (keptIn (state .kept) (memory (now (sizes .entry)) (now (start .entry)) (now (goal .entry)) (now (actions .entry)))) ⌝ }
-    ensures sound { λ r. ⌜ Sound (r .kept) ⌝ }
+    line: &mut [u8],
+) -> Further
+    requires { ⌜ Ready (taken state (memory (now sizes) (now start) (now goal) (now actions)) (now line)) × (at < length (now bytes)) ⌝ }
+    ensures rest { λ r. ⌜ takeAll (taken (r .reading) (memory (now (sizes .exit)) (now (start .exit)) (now (goal .exit)) (now (actions .exit))) (now (line .exit))) (drop (r .at) (now (bytes .entry))) ≡ takeAll (taken state (memory (now (sizes .entry)) (now (start .entry)) (now (goal .entry)) (now (actions .entry))) (now (line .entry))) (drop at (now (bytes .entry))) ⌝ }
+    ensures fits { λ r. ⌜ Sound (r .reading .kept) × (r .reading .held ≤ headRoom) ⌝ }
+    ensures further { λ r. ⌜ (at < r .at) × (r .at ≤ length (now (bytes .entry))) ⌝ }
 {
-    let position = moved_on(due, said.first, state.position);
-    let lines = one_more(state.lines);
-    let kept = keep_line(due, said, state.kept, sizes, start, goal, actions);
-    Intake {
-        position,
-        lines,
-        verdict: Verdict::Accepted,
-        kept,
-        held: 0,
+    let whole = hold_line(state, line, bytes, at);
+    let end = whole.at;
+    if bytes.len() <= end {
+        return whole;
+    }
+    let next = end + 1;
+    Further {
+        reading: end_line(whole.reading, sizes, start, goal, actions, line),
+        at: next,
     }
 }
 
-// A line that was against the rules ends the reading.
-fn stopped(state: Intake, why: Refusal) -> Intake
-    ensures { λ r. ⌜ r ≡ stoppedFor why state ⌝ }
+fn refused_for_room(state: Intake) -> Intake
+    ensures { λ r. ⌜ r ≡ refusedFor (Refused Room) state ⌝ }
 {
     let position = state.position;
     let kept = state.kept;
     Intake {
         position,
         lines: state.lines,
-        verdict: Verdict::Refused(why),
+        verdict: Verdict::Refused(Refusal::Room),
         kept,
-        held: 0,
+        held: state.held,
     }
 }
 
-// What the line said decides: it is read, or it ends the reading.
-fn after_line(
-    state: Intake,
-    due: FormatLine,
-    said: Said,
-    sizes: &mut [u8],
-    start: &mut [u8],
-    goal: &mut [u8],
-    actions: &mut [u8],
-) -> Intake
-    requires { ⌜ Sound (state .kept) × Lent (memory (now sizes) (now start) (now goal) (now actions)) ⌝ }
-    ensures after { λ r. ⌜ ((line : List ℕ) → taken r (memory (now (sizes .exit)) (now (start .exit)) (now (goal .exit)) (now (actions .exit))) line ≡ afterLine said due state (memory (now (sizes .entry)) (now (start .entry)) (now (goal .entry)) (now (actions .entry))) line) ⌝ }
-    ensures fits { λ r. ⌜ Sound (r .kept) × (r .held ≤ headRoom) ⌝ }
-{
-    match said {
-        Said::Refused(why) => stopped(state, why),
-        Said::Says(numbers) => read_on(state, due, numbers, sizes, start, goal, actions),
-    }
-}
-
-// The line that is held ends: it is judged as the line that is due.
-pub(crate) fn end_line(
+// The next bytes of a text, as many as there are.
+pub fn take_bytes(
     state: Intake,
     sizes: &mut [u8],
     start: &mut [u8],
     goal: &mut [u8],
     actions: &mut [u8],
-    line: &[u8],
+    line: &mut [u8],
+    bytes: &[u8],
 ) -> Intake
-    requires { ⌜ Ready (taken state (memory (now sizes) (now start) (now goal) (now actions)) (now line)) ⌝ }
-    ensures ended { λ r. ⌜ taken r (memory (now (sizes .exit)) (now (start .exit)) (now (goal .exit)) (now (actions .exit))) (now (line .entry)) ≡ endLine (taken state (memory (now (sizes .entry)) (now (start .entry)) (now (goal .entry)) (now (actions .entry))) (now (line .entry))) ⌝ }
-    ensures fits { λ r. ⌜ Sound (r .kept) × (r .held ≤ headRoom) ⌝ }
+    ensures { λ r. ⌜ taken r (memory (now (sizes .exit)) (now (start .exit)) (now (goal .exit)) (now (actions .exit))) (now (line .exit)) ≡ takeCall (taken state (memory (now (sizes .entry)) (now (start .entry)) (now (goal .entry)) (now (actions .entry))) (now (line .entry))) (now (bytes .entry)) ⌝ }
 {
-    let verdict = state.verdict;
-    let Verdict::Accepted = verdict else {
-        return state;
-    };
-    let held = state.held;
-    let due = line_due(state.position);
-    let said = textlines::says(due, one_more(state.lines), &line[..held]);
-    after_line(state, due, said, sizes, start, goal, actions)
+    if !has_room(
+        state.kept,
+        state.held,
+        sizes.len(),
+        start.len(),
+        goal.len(),
+        actions.len(),
+        line.len(),
+    ) {
+        return refused_for_room(state);
+    }
+    let mut reading = state;
+    let mut at = 0;
+    while at < bytes.len() {
+        let further = take_line(bytes, at, reading, sizes, start, goal, actions, line);
+        reading = further.reading;
+        at = further.at;
+    }
+    reading
 }

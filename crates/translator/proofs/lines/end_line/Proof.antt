@@ -2,8 +2,8 @@
 -- Assumes nothing.
 use borrow.Author.Needs.{needs}
 use Rattle.translator.proofs.LineLaws.{held-length, refused-before, line-ended}
-use Rattle.translator.proofs.intake.end_line.Statement.{statement}
-use Rattle.translator.proofs.intake.end_line.Tie as tie
+use Rattle.translator.proofs.lines.end_line.Statement.{statement}
+use Rattle.translator.proofs.lines.end_line.Tie as tie
 
 pub end-line-spec : {M : Type 1} → statement M
 end-line-spec =

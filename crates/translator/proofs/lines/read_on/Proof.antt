@@ -2,8 +2,8 @@
 -- Assumes nothing.
 use borrow.Author.Needs.{needs}
 use Rattle.translator.proofs.LineLaws.{read-on-is}
-use Rattle.translator.proofs.intake.read_on.Statement.{statement}
-use Rattle.translator.proofs.intake.read_on.Tie as tie
+use Rattle.translator.proofs.lines.read_on.Statement.{statement}
+use Rattle.translator.proofs.lines.read_on.Tie as tie
 
 pub read-on-spec : {M : Type 1} → statement M
 read-on-spec =

@@ -2,8 +2,8 @@
 -- Assumes nothing.
 use borrow.Author.Needs.{needs}
 use Rattle.translator.proofs.LineLaws.{after-refused, refused-sound, refused-held, after-read, read-held}
-use Rattle.translator.proofs.intake.after_line.Statement.{statement}
-use Rattle.translator.proofs.intake.after_line.Tie as tie
+use Rattle.translator.proofs.lines.after_line.Statement.{statement}
+use Rattle.translator.proofs.lines.after_line.Tie as tie
 
 pub after-line-spec : {M : Type 1} → statement M
 after-line-spec =
