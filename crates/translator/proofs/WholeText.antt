@@ -35,7 +35,7 @@ use Rattle.bodies.specs.declared.Excess.the-variants.{Within, Lengths, Actions}
 use Rattle.bodies.proofs.States.{before-nothing, states-begun}
 use Rattle.bodies.proofs.Verdicts.{taskVerdict, verdict-within, bodies-within, verdict-lengths, verdict-actions}
 use Rattle.translator.specs.Position.{firstPosition, lineDue}
-use Rattle.translator.specs.Intake.{Memory, keptIn, mostLines, oneMore, Taken, taken, afterLine, endLine, headRoom, takeByte, takeAll, actionsFit, countsFit, lentFits, roomFor, hasRoom, Lent, Ready, takeCall, begun, lastLine, rulesKept, fileKept, verdictKept, endVerdict, translation, Ended, endWith, finishCall}
+use Rattle.translator.specs.Intake.{Memory, keptIn, mostLines, oneMore, Taken, taken, afterLine, endLine, headRoom, takeByte, takeAll, actionsFit, countsFit, lentFits, roomFor, hasRoom, Lent, Ready, takeCall, begun, lastLine, rulesKept, fileKept, verdictKept, stopsEarly, verdictAtEnd, endVerdict, translation, Ended, endWith, finishCall}
 use Rattle.translator.specs.declared.position.Position.{Position}
 use Rattle.translator.proofs.Stack.{linesDue, no-end}
 use Rattle.translator.proofs.Simulated.{unless-accepted, unless-refused, Keeps, Follows, follows-line, follows-end, Simulates, due-next, next-line}
@@ -116,7 +116,7 @@ module _ (reading : TextReading) (t : Taken) (s : Simulates reading t) (l : read
       ∙ ap (λ due. judge (demand (isEnd (shapeOf due)) (AgainstFormat (suc (reading .lines))) ∷ [])) (sym (due-next reading t s))
 
   end-verdict : (room : ℕ) → endVerdict t room ≡ inTurn (endOfReading reading) (statedVerdict (reading .stated .task) room)
-  unfolding endVerdict endOfReading
+  unfolding endVerdict verdictAtEnd stopsEarly endOfReading
   end-verdict room =
       let p : Position = t .intake .position in
       let ends : Verdict = judge (demand (isEnd (shapeOf (lineDue p))) (AgainstFormat (oneMore (t .intake .lines))) ∷ []) in
@@ -132,7 +132,7 @@ module _ (reading : TextReading) (t : Taken) (s : Simulates reading t) (l : read
       ∙ inTurn-three (reading .verdict) _ task
 
   end-file : (room : ℕ) → endVerdict t room ≡ Accepted → fileKept (t .intake .kept) (t .memory) ≡ fileOf (reading .stated .task)
-  unfolding endVerdict
+  unfolding endVerdict verdictAtEnd stopsEarly
   end-file room a =
       file-accepted (reading .stated) (t .intake .kept) (t .memory) (s .follows .keeps) room
       (inTurn-right (judge (demand (isEnd (shapeOf (lineDue (t .intake .position)))) (AgainstFormat (oneMore (t .intake .lines))) ∷ [])) _

@@ -284,13 +284,16 @@ verdictKept Within k m room = inTurn (rulesKept k m) (judge (roomRule (length (f
 verdictKept Lengths k m room = Refused BodyLength
 verdictKept Actions k m room = inTurn (rulesKept k m) (Refused (ActionAtFault (k .actions)))
 
+-- a text that stops early is at fault at the line after its last
+unfoldable pub stopsEarly : Position → (lines : ℕ) → Verdict
+stopsEarly p lines = judge (demand (isEnd (shapeOf (lineDue p))) (AgainstFormat (oneMore lines)) ∷ [])
+
 -- 30 to 32, then those
+unfoldable pub verdictAtEnd : Intake → Memory → (room : ℕ) → Verdict
+verdictAtEnd i m room = inTurn (i .verdict) (inTurn (stopsEarly (i .position) (i .lines)) (verdictKept (i .kept .excess) (i .kept) m room))
+
 unfoldable pub endVerdict : Taken → (room : ℕ) → Verdict
-endVerdict t room =
-    let i : Intake = t .intake in
-    inTurn (i .verdict)
-    (inTurn (judge (demand (isEnd (shapeOf (lineDue (i .position)))) (AgainstFormat (oneMore (i .lines))) ∷ []))
-    (verdictKept (i .kept .excess) (i .kept) (t .memory) room))
+endVerdict t room = verdictAtEnd (t .intake) (t .memory) room
 
 abbrev pub translation : Verdict → (length : ℕ) → Translation
 translation Accepted length = Translation.Written length
@@ -310,6 +313,11 @@ endWith t room =
     let v : Verdict = endVerdict t (length room) in
     let file : List ℕ = fileKept (t .intake .kept) (t .memory) in
     ended (translation v (length file)) (t .memory) (lentAfter v file room)
+
+-- what is answered at the end, and what is left in the room
+pub record EndsWith (i : Intake) (m : Memory) (room : List ℕ) (answer : Translation) (after : List ℕ) : Type 0 where
+  pub answered : answer ≡ translation (verdictAtEnd i m (length room)) (length (fileKept (i .kept) m))
+  pub leaves : after ≡ lentAfter (verdictAtEnd i m (length room)) (fileKept (i .kept) m) room
 
 unfoldable pub finishCall : Taken → (room : List ℕ) → Ended
 finishCall t room = cond (hasRoom t) (endWith (lastLine t) room) (ended (Translation.Refused Room) (t .memory) room)

@@ -1,0 +1,3 @@
+-- What is proved of the program.
+pub mod Prints
+pub mod OneAnswer

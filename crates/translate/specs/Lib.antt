@@ -1,0 +1,2 @@
+-- What the program does on its way, as definitions; what it prints is the rules' own.
+pub mod Parts
