@@ -50,11 +50,13 @@ def main():
     if here != there:
         sys.exit('the two programs do not print the same text')
     print(f'{here[1]} bytes, the same by both')
-    best = {}
-    for name, program in (('proved', ours), ('plain C', plain)):
-        runs = [once(program, largest) for _ in range(RUNS)]
-        best[name] = min(seconds for seconds, _ in runs)
-        print(f'{name}: {best[name]:.2f} s, at most {max(kib for _, kib in runs)} KiB; on the folder example {once(program, small)[1]} KiB')
+    programs = {'proved': ours, 'plain C': plain}
+    # the two take turns, so that a busy machine slows both
+    turns = [{name: once(program, largest) for name, program in programs.items()} for _ in range(RUNS)]
+    best = {name: min(turn[name][0] for turn in turns) for name in programs}
+    for name, program in programs.items():
+        most = max(turn[name][1] for turn in turns)
+        print(f'{name}: {best[name]:.2f} s, at most {most} KiB; on the folder example {once(program, small)[1]} KiB')
     print(f"proved / plain C: {best['proved'] / best['plain C']:.2f}")
 
 

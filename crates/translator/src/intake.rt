@@ -89,16 +89,9 @@ fn hold(line: &mut [u8], held: usize, bytes: &[u8], at: usize) -> Stop
 fn with_held(state: Intake, held: usize) -> Intake
     ensures { λ r. ⌜ r ≡ withHeld held state ⌝ }
 {
-    let position = state.position;
-    let verdict = state.verdict;
-    let kept = state.kept;
-    Intake {
-        position,
-        lines: state.lines,
-        verdict,
-        kept,
-        held,
-    }
+    let mut next = state;
+    next.held = held;
+    next
 }
 
 // The line that has begun goes on, up to an LF or the end of the bytes; behind a fault they are passed over.
