@@ -1,4 +1,5 @@
-/* Wawrolen for a host in C: task files, the clauses of a task at a horizon, solver output, models and schedules.
+/* Wawrolen for a host in C: task files, the translator's texts, the clauses of a task at a horizon, solver output, models and
+ * schedules.
  *
  * Every function returns the number of a refusal, 0 on acceptance, and writes the refusal's detail to *detail, 0 on acceptance. Numbers
  * and details are those of the rules. What each function promises is proved for all bytes and numbers, refusals included; the
@@ -29,6 +30,9 @@ enum {
     WAWROLEN_SAID_UNKNOWN = 4
 };
 
+/* Room for any task file that wawrolen_translate writes. */
+enum { WAWROLEN_FILE_ROOM = 17808 };
+
 /* The room that wawrolen_read_bytes needs for a line: one byte more than a line may have. */
 enum { WAWROLEN_LINE_ROOM = 4097 };
 
@@ -40,6 +44,11 @@ size_t wawrolen_check_file(const uint8_t *file, size_t file_length, size_t *deta
 /* Says where in the file the body of a number, from 1, starts and how many bytes it has, 0 and 0 where there is none; the result says
  * which of the refusals 1 and 2 applies, and a number that no body has is no refusal. */
 size_t wawrolen_body(const uint8_t *file, size_t file_length, size_t number, size_t *start, size_t *size, size_t *detail);
+
+/* ---- texts of the Fast Downward translator, format version 3 */
+
+/* Writes the task file of a whole text and counts its bytes: refusals 30 to 32, whose detail is a line, then 3 to 7, then 10. */
+size_t wawrolen_translate(const uint8_t *text, size_t text_length, uint8_t *room, size_t room_length, size_t *bytes, size_t *detail);
 
 /* ---- the formula of a file at a horizon */
 

@@ -11,7 +11,26 @@ static const uint8_t FOLDER[] = {0x10, 0x00, 0x02, 0x00, 0x12, 0x00, 0x02, 0x00,
                                  0x00, 0x10, 0x00, 0x02, 0x02, 0x00, 0x00, 0x01, 0x01, 0x01, 0x01, 0x00, 0x00,
                                  0x00, 0x01, 0x02, 0x02, 0x00, 0x01, 0x01, 0x00, 0x00, 0x00, 0x01, 0x01};
 
-/* its formula at horizon 1 */
+/* the same task as the translator writes it, line by line */
+static const char *const TEXT_LINES[] = {
+    "begin_version", "3", "end_version", "begin_metric", "0", "end_metric",
+    "2",
+    "begin_variable", "var0", "-1", "2", "Atom free(folder)", "NegatedAtom free(folder)", "end_variable",
+    "begin_variable", "var1", "-1", "2", "Atom waiting(run)", "Atom done(run)", "end_variable",
+    "0",
+    "begin_state", "0", "0", "end_state",
+    "begin_goal", "1", "1 1", "end_goal",
+    "2",
+    "begin_operator", "take folder", "0", "1", "0 0 0 1", "1", "end_operator",
+    "begin_operator", "run folder", "0", "2", "0 1 0 1", "0 0 1 0", "1", "end_operator",
+    "0",
+};
+
+/* a text in order whose task has no variable */
+static const char NO_VARIABLE[] = "begin_version\n3\nend_version\nbegin_metric\n0\nend_metric\n0\n0\nbegin_state\nend_state\n"
+                                  "begin_goal\n0\nend_goal\n0\n0\n";
+
+/* the folder example's formula at horizon 1 */
 static const char HEADER[] = "p cnf 10 22\n";
 static const char CLAUSES[] = "1 0\n3 0\n10 0\n1 2 0\n3 4 0\n7 8 0\n9 10 0\n-1 -2 0\n-3 -4 0\n-7 -8 0\n-9 -10 0\n-5 1 0\n-6 2 0\n"
                               "-6 3 0\n-5 8 0\n-6 7 0\n-6 10 0\n-7 1 6 0\n-8 2 5 0\n-9 3 0\n-10 4 6 0\n-5 -6 0\n";
@@ -24,6 +43,13 @@ static const uint64_t MODEL_TRUE = 0x9995;
 enum {
     FOLDER_LENGTH = sizeof FOLDER,
     SIZES_AT = 16, /* the first domain size */
+    ALL_LINES = sizeof TEXT_LINES / sizeof *TEXT_LINES,
+    VERSION_LINE = 2,
+    END_METRIC_LINE = 6,
+    LAYER_LINE = 10,
+    START_LINE = 24,
+    GOAL_LINE = 29,
+    EFFECT_LINE = 36,
     CLAUSE_COUNT = 22,
     ALL_BYTES = sizeof CLAUSES - 1,
     CLAUSE_WITH_THREE = 17, /* -7 1 6 */
@@ -127,6 +153,61 @@ static void bodies(void) {
     expect("there is no body of the largest number", body_told(FOLDER_LENGTH, SIZE_MAX, 0, 0, 0, 0));
     expect("a body of a file of 15 bytes: 1", body_told(15, 1, 0, 0, 1, 0));
     expect("a body of a file cut short: 2", body_told(FOLDER_LENGTH - 1, 1, 0, 0, 2, 3));
+}
+
+/* ---- the translator's text */
+
+enum { NO_LINE = 0, SAS_ROOM = 1024, FILE_ROOM = FOLDER_LENGTH + 2 };
+
+/* the room that is lent, with guards on both sides */
+struct translated {
+    uint8_t before[8], room[FILE_ROOM], after[8];
+};
+
+static int translation_told(const char *text, size_t length, size_t lent, size_t number, size_t about) {
+    struct translated translated;
+    struct cell bytes = FRESH, detail = FRESH;
+    size_t many = number == 0 ? FOLDER_LENGTH : 0;
+    memset(&translated, GUARD_BYTE, sizeof translated);
+    size_t result = wawrolen_translate((const uint8_t *)text, length, translated.room, lent, &bytes.value, &detail.value);
+    return told(result, detail, number, about) && holds(bytes, many) && memcmp(translated.room, FOLDER, many) == 0 &&
+           all_bytes(translated.room + many, FILE_ROOM - many, GUARD_BYTE) &&
+           all_bytes(translated.before, sizeof translated.before, GUARD_BYTE) &&
+           all_bytes(translated.after, sizeof translated.after, GUARD_BYTE);
+}
+
+/* the folder example's first lines, one of them, from 1, replaced */
+static int lines_translated(size_t many, size_t changed, const char *line, size_t lent, size_t number, size_t about) {
+    char text[SAS_ROOM];
+    size_t length = 0;
+    for (size_t i = 1; i <= many; i++)
+        length += (size_t)snprintf(text + length, sizeof text - length, "%s\n", i == changed ? line : TEXT_LINES[i - 1]);
+    return translation_told(text, length, lent, number, about);
+}
+
+static int changed_told(size_t changed, const char *line, size_t number, size_t about) {
+    return lines_translated(ALL_LINES, changed, line, FILE_ROOM, number, about);
+}
+
+static void translations(void) {
+    expect("the folder text in just its file's room", lines_translated(ALL_LINES, NO_LINE, "", FOLDER_LENGTH, 0, 0));
+    expect("the folder text in more room", changed_told(NO_LINE, "", 0, 0));
+    expect("an empty text: 30 at line 1", translation_told("", 0, FILE_ROOM, 30, 1));
+    expect("a line against the format: 30 at it", changed_told(END_METRIC_LINE, "end_metrics", 30, END_METRIC_LINE));
+    expect("a text that stops early: 30 at the line after its last",
+           lines_translated(ALL_LINES - 1, NO_LINE, "", FILE_ROOM, 30, ALL_LINES));
+    expect("an axiom layer of 0: 31 at its line", changed_told(LAYER_LINE, "0", 31, LAYER_LINE));
+    expect("an effect with a condition: 31 at its line", changed_told(EFFECT_LINE, "1 0 0 0 1", 31, EFFECT_LINE));
+    expect("an axiom: 31 at the last line", changed_told(ALL_LINES, "1", 31, ALL_LINES));
+    expect("another version: 32 at its line", changed_told(VERSION_LINE, "4", 32, VERSION_LINE));
+    expect("a text without a variable: 3", translation_told(NO_VARIABLE, strlen(NO_VARIABLE), FILE_ROOM, 3, 0));
+    expect("a start value outside its domain: 5", changed_told(START_LINE + 1, "256", 5, 1));
+    expect("a goal pair outside: 6", changed_told(GOAL_LINE, "1 2", 6, 0));
+    expect("an effect outside: 7", changed_told(EFFECT_LINE, "0 2 0 1", 7, 0));
+    expect("the folder text in short room: 10", lines_translated(ALL_LINES, NO_LINE, "", FOLDER_LENGTH - 1, 10, 0));
+    expect("the folder text without room: 10", lines_translated(ALL_LINES, NO_LINE, "", 0, 10, 0));
+    expect("32 comes before 10", lines_translated(ALL_LINES, VERSION_LINE, "2", 0, 32, VERSION_LINE));
+    expect("6 comes before 10", lines_translated(ALL_LINES, GOAL_LINE, "1 2", 0, 6, 0));
 }
 
 /* ---- the formula */
@@ -453,6 +534,7 @@ static void schedules(void) {
 int main(void) {
     files();
     bodies();
+    translations();
     counts();
     literals();
     texts();

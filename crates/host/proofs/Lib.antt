@@ -3,5 +3,6 @@ pub mod Crossing
 pub mod FoundLaws
 pub mod LeftLaws
 pub mod TextLaws
+pub mod TranslationLaws
 pub mod Kept
 pub mod OneAnswer

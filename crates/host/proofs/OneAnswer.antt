@@ -21,6 +21,7 @@ use Rattle.host.proofs.readings.wawrolen_read_rest.Reads as read-rest
 use Rattle.host.proofs.readings.wawrolen_end_reading.Reads as end-reading
 use Rattle.host.proofs.schedules.wawrolen_check_schedule.Reads as check-schedule
 use Rattle.host.proofs.schedules.wawrolen_way_back.Reads as way-back
+use Rattle.host.proofs.translations.wawrolen_translate.Reads as translate
 
 pub one-check-file : (κs : _) (a : _) (r s : ℕ) (x y : _) → check-file.Post κs a r x → check-file.Post κs a s y
     → answer r (now (x .1 .0)) ≡ answer s (now (y .1 .0))
@@ -97,3 +98,9 @@ pub one-way-back : (κs : _) (a : _) (r s : ℕ) (x y : _) → way-back.Post κs
     → (answer r (now (x .1 .1 .1 .1 .1 .0)) ≡ answer s (now (y .1 .1 .1 .1 .1 .0)))
     × (lent (now (x .1 .1 .1 .0)) (now (x .1 .1 .1 .1 .0)) ≡ lent (now (y .1 .1 .1 .0)) (now (y .1 .1 .1 .1 .0)))
 one-way-back κs a r s x y p q = (p .0 ∙ sym (q .0), p .1 ∙ sym (q .1))
+
+pub one-translate : (κs : _) (a : _) (r s : ℕ) (x y : _) → translate.Post κs a r x → translate.Post κs a s y
+    → (answer r (now (x .1 .1 .1 .0)) ≡ answer s (now (y .1 .1 .1 .0)))
+    × (now (x .1 .1 .0) ≡ now (y .1 .1 .0))
+    × (now (x .1 .0) ≡ now (y .1 .0))
+one-translate κs a r s x y p q = (p .0 ∙ sym (q .0), p .1 .0 ∙ sym (q .1 .0), p .1 .1 ∙ sym (q .1 .1))

@@ -7,3 +7,4 @@ pub mod readings;
 pub mod schedules;
 mod states;
 pub mod texts;
+pub mod translations;
