@@ -1,4 +1,5 @@
--- Each valid task has a text: told in the format, with any names, it is accepted and states that task.
+-- Each valid task has a text: told in the format, with any names, it is accepted and states that task. It is the plainest such text: all
+-- preconditions are prevail conditions, every old value is -1, and there is no mutex group.
 -- Assumes nothing.
 use mathlib.Core.Path.{_≡_, refl, sym, ap, _∙_}
 use mathlib.Core.Bool.{true, not}

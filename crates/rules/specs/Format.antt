@@ -92,7 +92,7 @@ operatorLines = BeginOperator ∷ OperatorName ∷ PrevailCount ∷ EffectCount 
 abbrev pub firstLines : List FormatLine
 firstLines = BeginVersion ∷ Version ∷ EndVersion ∷ BeginMetric ∷ Metric ∷ EndMetric ∷ VariableCount ∷ []
 
--- all behind that count
+-- what that count announces
 abbrev pub linesOfVariables : ℕ → List FormatLine
 linesOfVariables n =
     times n variableLines
