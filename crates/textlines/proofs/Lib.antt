@@ -3,5 +3,6 @@ pub mod WordPlaces
 pub mod PlainLaws
 pub mod PartLaws
 pub mod ShapeLaws
+pub mod FactLaws
 pub mod OneAnswer
 pub mod Deciding

@@ -1,4 +1,4 @@
--- Laws of the parts of a line: its words one by one make the tests of a fact and of an effect, and an effect's old value.
+-- Laws of the parts of a line: its words one by one make the tests of an effect, and an effect's old value.
 -- Assumes nothing.
 use mathlib.Core.Path.{_≡_, sym, ap, _∙_}
 use mathlib.Core.Logic.{⊎-elim}
@@ -9,7 +9,7 @@ use lib.Dec.{eqb}
 use Rattle.rules.specs.Lines.{valueFrom}
 use Rattle.rules.specs.Format.{wordAt, wordCount, isPlain, isMinusOne, numberAt}
 use Rattle.rules.proofs.Bools.{not-true, not-false, and-left, and-right, or-cases, clash}
-use Rattle.textlines.specs.Says.{oldIn, isFact, isSigned, isEffect}
+use Rattle.textlines.specs.Says.{oldIn, isSigned, isEffect}
 use Rattle.textlines.specs.declared.OldValue.{OldValue}
 
 -- ---- a word by its place
@@ -24,32 +24,6 @@ module _ (line w : List ℕ) (i : ℕ) (word : w ≡ wordAt line i) where
   pub value-at : (m : ℕ) → m ≡ valueFrom 0 w → m ≡ numberAt line i
   unfolding numberAt
   value-at m e = e ∙ ap (valueFrom 0) word
-
--- ---- a fact
-
-module _ (line : List ℕ) (b : Bool) (two : b ≡ eqb (wordCount line) 2) where
-  pub fact-count : not b ≡ true → false ≡ isFact line
-  unfolding isFact
-  fact-count t = rw (sym two ∙ not-true b t)
-
-  module _ (t : not b ≡ false) (c : Bool) (variable : c ≡ isPlain (wordAt line 0)) where
-    pub fact-variable : not c ≡ true → false ≡ isFact line
-    unfolding isFact
-    fact-variable u = rw (sym two ∙ not-false b t, sym variable ∙ not-true c u)
-
-    pub fact-value : not c ≡ false → (d : Bool) → d ≡ isPlain (wordAt line 1) → d ≡ isFact line
-    unfolding isFact
-    fact-value u d e = rw (sym two ∙ not-false b t, sym variable ∙ not-false c u, e)
-
-module _ (line : List ℕ) (b : Bool) (is : b ≡ isFact line) (t : not b ≡ false) where
-  pub fact-plain-variable : isPlain (wordAt line 0) ≡ true
-  unfolding isFact
-  fact-plain-variable =
-      and-right (eqb (wordCount line) 2) (isPlain (wordAt line 0)) (and-left _ (isPlain (wordAt line 1)) (sym is ∙ not-false b t))
-
-  pub fact-plain-value : isPlain (wordAt line 1) ≡ true
-  unfolding isFact
-  fact-plain-value = and-right (eqb (wordCount line) 2 && isPlain (wordAt line 0)) (isPlain (wordAt line 1)) (sym is ∙ not-false b t)
 
 -- ---- an effect
 

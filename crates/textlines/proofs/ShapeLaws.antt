@@ -27,11 +27,11 @@ pub stops : (holds : Bool) (why : Refusal) (rules : List Rule) (says : Numbers) 
     → Said.Refused why ≡ saidBy (judge (demand holds why ∷ rules)) says
 stops holds why rules says t = sym (ap (λ v. saidBy v says) (judge-refused (demand holds why) rules t))
 
-passes : (holds : Bool) (why : Refusal) (rules : List Rule) (says : Numbers) → holds ≡ true
+pub passes : (holds : Bool) (why : Refusal) (rules : List Rule) (says : Numbers) → holds ≡ true
     → saidBy (judge rules) says ≡ saidBy (judge (demand holds why ∷ rules)) says
 passes holds why rules says t = sym (ap (λ v. saidBy v says) (judge-passed (demand holds why) rules t))
 
-through : (says : Numbers) → Said.Says says ≡ saidBy (judge []) says
+pub through : (says : Numbers) → Said.Says says ≡ saidBy (judge []) says
 through says = sym (ap (λ v. saidBy v says) judge-nil)
 
 pub plain-true : (line : List ℕ) (b : Bool) → b ≡ isPlain line → not b ≡ false → isPlain line ≡ true
@@ -188,17 +188,9 @@ module _ (at : ℕ) (line : List ℕ) where
         pub axiom-right : (r : Said) → c ≡ eqb (wordCount line) 1 → not c ≡ false → r ≡ saysNothing → r ≡ shapeSays axiomCount at line
         axiom-right r f u e = e ∙ through noNumbers ∙ passes (eqb (wordCount line) 1) (AgainstFormat at) [] _ (sym f ∙ not-false c u) ∙ axiom-rest
 
-  module _ (b : Bool) (is : b ≡ isFact line) where
-    pub fact-against : (r : Said) → not b ≡ true → r ≡ againstFormat at → r ≡ shapeSays aFact at line
-    unfolding shapeSays lineRules isFact
-    fact-against r t e = e ∙ stops _ (AgainstFormat at) [] _ (sym is ∙ not-true b t)
-
-    pub fact-right : not b ≡ false → (x v : ℕ) → x ≡ numberAt line 0 → v ≡ numberAt line 1
-        → Said.Says (record { first = x; second = v; old = OldValue.Any }) ≡ shapeSays aFact at line
-    unfolding shapeSays lineRules isFact numbersIn
-    fact-right t x v ex ev =
-        let said : _≡_ {A = Numbers} (numbers x v OldValue.Any) (numbers (numberAt line 0) (numberAt line 1) OldValue.Any) = rw (ex, ev) in
-        ap (λ n. Said.Says n) said ∙ through _ ∙ passes _ (AgainstFormat at) [] _ (sym is ∙ not-false b t)
+  pub fact-against : (r : Said) → isFact line ≡ false → r ≡ againstFormat at → r ≡ shapeSays aFact at line
+  unfolding shapeSays lineRules isFact
+  fact-against r t e = e ∙ stops _ (AgainstFormat at) [] _ t
 
   -- what a number announces and states is no matter of the line
   pub number-says : (r : Said) → (announced : ℕ → List FormatLine) (states : ℕ → Stated → Stated) → r ≡ shapeSays aNumber at line → r ≡ shapeSays (number announced states) at line

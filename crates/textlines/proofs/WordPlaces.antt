@@ -44,7 +44,7 @@ module _ (line : List ℕ) (at end : ℕ) (ends : EndsAt line at end) where
 pub word-start : (line : List ℕ) (i : ℕ) → wordAt (drop 0 line) i ≡ wordAt line i
 word-start line i = refl
 
-word-first : (s w : List ℕ) (ws : List (List ℕ)) (k : ℕ) → pieces space s ≡ w ∷ ws → k ≤ 0 → wordAt s k ≡ w
+pub word-first : (s w : List ℕ) (ws : List (List ℕ)) (k : ℕ) → pieces space s ≡ w ∷ ws → k ≤ 0 → wordAt s k ≡ w
 unfolding wordAt
 word-first s w ws zero e h = ap (λ l. getD l 0 []) e
 word-first s w ws (suc k) e h = absurd (omega arith)

@@ -8,7 +8,7 @@ use rules::Refusal;
 ghost use mathlib.Core.Bool.{true};
 ghost use mathlib.Core.Path.{_≡_};
 ghost use Rattle.rules.specs.Format.{keyword, version, metric, layer, effect, axiomCount, wordAt};
-ghost use Rattle.textlines.specs.Says.{saysNothing, againstFormat, oldIn, shapeSays, aNumber, aFact, isFact, isSigned, isEffect};
+ghost use Rattle.textlines.specs.Says.{saysNothing, againstFormat, oldIn, shapeSays, aNumber, aFact, sidesSay, isSigned, isEffect};
 
 const FORMAT_VERSION: usize = 3;
 
@@ -92,30 +92,32 @@ pub fn number_line(at: usize, line: &[u8]) -> Said
     })
 }
 
-fn is_fact(line: &[u8]) -> bool
-    ensures { λ r. ⌜ r ≡ isFact (now (line .entry)) ⌝ }
+// A variable and a value, by what stands on the two sides of a space.
+fn sides(at: usize, variable: &[u8], value: &[u8]) -> Said
+    ensures { λ r. ⌜ r ≡ sidesSay at (now (variable .entry)) (now (value .entry)) ⌝ }
 {
-    if !words::has_words(line, 2) {
-        return false;
+    if !plain::is_plain(variable) {
+        return against_format(at);
     }
-    if !plain::is_plain_at(line, 0) {
-        return false;
-    }
-    plain::is_plain_at(line, 1)
-}
-
-// A variable and a value.
-pub fn fact_line(at: usize, line: &[u8]) -> Said
-    ensures { λ r. ⌜ r ≡ shapeSays aFact at (now (line .entry)) ⌝ }
-{
-    if !is_fact(line) {
+    if !plain::is_plain(value) {
         return against_format(at);
     }
     Said::Says(Numbers {
-        first: plain::number_at(line, 0),
-        second: plain::number_at(line, 1),
+        first: plain::number(variable),
+        second: plain::number(value),
         old: OldValue::Any,
     })
+}
+
+// A variable and a value: the line is cut at its first space alone, since no number has one.
+pub fn fact_line(at: usize, line: &[u8]) -> Said
+    ensures { λ r. ⌜ r ≡ shapeSays aFact at (now (line .entry)) ⌝ }
+{
+    let end = bytes::words::word_end(line, 0);
+    if end == line.len() {
+        return against_format(at);
+    }
+    sides(at, &line[0..end], &line[end + 1..])
 }
 
 // Whether a line without conditions is an effect's.

@@ -14,18 +14,9 @@ use Rattle.rules.specs.declared.Refusal.the-variants.{Room}
 use Rattle.rules.specs.declared.Verdict.the-variants.{Accepted, Refused}
 use Rattle.rules.proofs.Bools.{not-true, not-false}
 use Rattle.bodies.specs.Keeping.{Sound}
-use Rattle.translator.specs.Intake.{Memory, headRoom, Taken, taken, Ready, endLine, withHeld, takeByte, takeAll, HeldOn, SameRest, HeldUpTo, HeldLine, roomFor, hasRoom, refusedFor, takeCall}
+use Rattle.translator.specs.Intake.{Memory, headRoom, Taken, taken, Ready, endLine, withHeld, takeByte, takeAll, SameRest, HeldUpTo, Passed, PassedUpTo, HeldLine, roomFor, hasRoom, refusedFor, takeCall}
 use Rattle.translator.specs.declared.intake.Intake.{Intake}
 use Rattle.translator.proofs.InPieces.{bytes-stay, byte-ends, byte-held, byte-passed}
-
--- ---- one byte
-
-module _ (held : ℕ) (line : List ℕ) (b : ℕ) where
-  pub held-more : held < headRoom → HeldOn held line b (held + 1) (set line held b)
-  held-more h = record { fits = omega arith; same = λ i m e n. byte-held (taken (withHeld held i) m line) b e n h }
-
-  pub held-full : headRoom ≤ held → held ≤ headRoom → HeldOn held line b held line
-  held-full h k = record { fits = k; same = λ i m e n. byte-passed (taken (withHeld held i) m line) b e n h }
 
 -- the next byte of what is left
 pub next-byte : (t : Taken) (bytes : List ℕ) (n : ℕ) → n < length bytes → takeAll t (drop n bytes) ≡ takeAll (takeByte t (getD bytes n 0)) (drop (n + 1) bytes)
@@ -40,19 +31,59 @@ module _ (bytes : List ℕ) (at held : ℕ) (line : List ℕ) where
   rest-none i m e = refl
 
   module _ (n h : ℕ) (l : List ℕ) (rest : SameRest bytes at held line n h l) where
-    pub rest-byte : (h′ : ℕ) (l′ : List ℕ) → n < length bytes → (getD bytes n 0 ≡ lf → ⊥) → HeldOn h l (getD bytes n 0) h′ l′
+    rest-on : (h′ : ℕ) (l′ : List ℕ) → n < length bytes
+        → ((i : Intake) (m : Memory) → i .verdict ≡ Accepted → takeByte (taken (withHeld h i) m l) (getD bytes n 0) ≡ taken (withHeld h′ i) m l′)
         → SameRest bytes at held line (n + 1) h′ l′
     unfolding SameRest
-    rest-byte h′ l′ k f o i m e =
-        ap (λ t. takeAll t (drop (n + 1) bytes)) (sym (o .same i m e f))
-        ∙ sym (next-byte (taken (withHeld h i) m l) bytes n k)
-        ∙ rest i m e
+    rest-on h′ l′ k o i m e =
+        ap (λ t. takeAll t (drop (n + 1) bytes)) (sym (o i m e)) ∙ sym (next-byte (taken (withHeld h i) m l) bytes n k) ∙ rest i m e
+
+    pub rest-held : n < length bytes → (getD bytes n 0 ≡ lf → ⊥) → h < headRoom → SameRest bytes at held line (n + 1) (h + 1) (set l h (getD bytes n 0))
+    rest-held k f r = rest-on (h + 1) (set l h (getD bytes n 0)) k (λ i m e. byte-held (taken (withHeld h i) m l) (getD bytes n 0) e f r)
+
+    rest-passed : n < length bytes → (getD bytes n 0 ≡ lf → ⊥) → headRoom ≤ h → SameRest bytes at held line (n + 1) h l
+    rest-passed k f r = rest-on h l k (λ i m e. byte-passed (taken (withHeld h i) m l) (getD bytes n 0) e f r)
 
     pub up-to-lf : at ≤ n → n < length bytes → getD bytes n 0 ≡ lf → h ≤ headRoom → HeldUpTo bytes at held line n h l
     up-to-lf f k e r = record { from = f; within = omega arith; ends = λ z. e; fits = r; rest = rest }
 
     pub up-to-end : at ≤ n → n ≤ length bytes → length bytes ≤ n → h ≤ headRoom → HeldUpTo bytes at held line n h l
     up-to-end f w k r = record { from = f; within = w; ends = λ z. absurd (omega arith); fits = r; rest = rest }
+
+    pub up-to-passed : (end : ℕ) → at ≤ n → headRoom ≤ h → h ≤ headRoom → PassedUpTo bytes n end → HeldUpTo bytes at held line end h l
+    unfolding SameRest Passed
+    up-to-passed end f g r p =
+        let full : h ≡ headRoom = omega arith in
+        record {
+          from = omega (arith, p .from);
+          within = p .within;
+          ends = p .ends;
+          fits = r;
+          rest =
+              λ i m e.
+              ap (λ k. takeAll (taken (withHeld k i) m l) (drop end bytes)) full
+              ∙ p .rest l i m e
+              ∙ ap (λ k. takeAll (taken (withHeld k i) m l) (drop n bytes)) (sym full)
+              ∙ rest i m e;
+        }
+
+-- ---- bytes behind the first of a line
+
+module _ (bytes : List ℕ) (at : ℕ) where
+  pub passed-none : Passed bytes at at
+  unfolding Passed
+  passed-none line = rest-none bytes at headRoom line
+
+  module _ (n : ℕ) (passed : Passed bytes at n) where
+    pub passed-byte : n < length bytes → (getD bytes n 0 ≡ lf → ⊥) → Passed bytes at (n + 1)
+    unfolding Passed
+    passed-byte k f line = rest-passed bytes at headRoom line n headRoom line (passed line) k f (omega arith)
+
+    pub passed-to-lf : at ≤ n → n < length bytes → getD bytes n 0 ≡ lf → PassedUpTo bytes at n
+    passed-to-lf f k e = record { from = f; within = omega arith; ends = λ z. e; rest = passed }
+
+    pub passed-to-end : at ≤ n → n ≤ length bytes → length bytes ≤ n → PassedUpTo bytes at n
+    passed-to-end f w k = record { from = f; within = w; ends = λ z. absurd (omega arith); rest = passed }
 
 -- ---- a line
 

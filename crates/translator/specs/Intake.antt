@@ -206,12 +206,6 @@ takeByte t b =
 unfoldable pub takeAll : Taken → List ℕ → Taken
 takeAll t bytes = foldl takeByte t bytes
 
--- a byte that is no LF is held, or passed over: for every reading what it is when it takes that byte
-pub record HeldOn (held : ℕ) (line : List ℕ) (b heldThen : ℕ) (lineThen : List ℕ) : Type 0 where
-  pub fits : heldThen ≤ headRoom
-  pub same : (i : Intake) (m : Memory) → i .verdict ≡ Accepted → (b ≡ lf → ⊥)
-      → takeByte (taken (withHeld held i) m line) b ≡ taken (withHeld heldThen i) m lineThen
-
 -- bytes from a place on are held, up to an LF or the end: for every reading what is left comes to the same
 unfoldable pub SameRest : (bytes : List ℕ) (at held : ℕ) (line : List ℕ) (end heldThen : ℕ) (lineThen : List ℕ) → Type 0
 SameRest bytes at held line end heldThen lineThen =
@@ -224,6 +218,16 @@ pub record HeldUpTo (bytes : List ℕ) (at held : ℕ) (line : List ℕ) (end he
   pub ends : end < length bytes → getD bytes end 0 ≡ lf
   pub fits : heldThen ≤ headRoom
   pub rest : SameRest bytes at held line end heldThen lineThen
+
+-- bytes from a place on, up to an LF or the end, change nothing once the first of a line are held
+unfoldable pub Passed : (bytes : List ℕ) (at end : ℕ) → Type 0
+Passed bytes at end = (line : List ℕ) → SameRest bytes at headRoom line end headRoom line
+
+pub record PassedUpTo (bytes : List ℕ) (at end : ℕ) : Type 0 where
+  pub from : at ≤ end
+  pub within : end ≤ length bytes
+  pub ends : end < length bytes → getD bytes end 0 ≡ lf
+  pub rest : Passed bytes at end
 
 -- a reading goes on so, and nothing but what is held changes
 pub record HeldLine (i : Intake) (line bytes : List ℕ) (at : ℕ) (then : Intake) (end : ℕ) (lineThen : List ℕ) : Type 0 where

@@ -13,7 +13,7 @@ ghost use lib.ListN.{length, drop};
 ghost use Rattle.rules.specs.declared.Refusal.the-variants.{Room};
 ghost use Rattle.rules.specs.declared.Verdict.the-variants.{Refused};
 ghost use Rattle.bodies.specs.Keeping.{Sound};
-ghost use Rattle.translator.specs.Intake.{memory, headRoom, taken, Ready, withHeld, takeAll, HeldOn, HeldUpTo, HeldLine, refusedFor, takeCall, begun};
+ghost use Rattle.translator.specs.Intake.{memory, headRoom, taken, Ready, withHeld, takeAll, HeldUpTo, PassedUpTo, HeldLine, refusedFor, takeCall, begun};
 
 // How far a text is read: where in the format, how many lines, the first fault if there was one, what is kept, and how many bytes are held of the line
 // that has begun.
@@ -56,19 +56,22 @@ pub fn begin() -> Intake
     }
 }
 
-// One more byte of the line that has begun is held, if it is among its first.
-fn hold_byte(line: &mut [u8], held: usize, b: u8) -> usize
-    requires { ⌜ (held ≤ headRoom) × (headRoom ≤ length (now line)) ⌝ }
-    ensures { λ r. ⌜ HeldOn held (now (line .entry)) b r (now (line .exit)) ⌝ }
+// Where the line that goes on at a place ends: at the next LF, or with the bytes.
+fn line_end(bytes: &[u8], at: usize) -> usize
+    requires { ⌜ at ≤ length (now bytes) ⌝ }
+    ensures { λ r. ⌜ PassedUpTo (now (bytes .entry)) at r ⌝ }
 {
-    if held < HEAD_ROOM {
-        line[held] = b;
-        return held + 1;
+    let mut end = at;
+    while end < bytes.len() {
+        if bytes[end] == b'\n' {
+            return end;
+        }
+        end += 1;
     }
-    held
+    end
 }
 
-// The bytes from a place on, up to an LF or the end.
+// The bytes from a place on, up to an LF or the end; once the first are held, an LF is all that is looked for.
 fn hold(line: &mut [u8], held: usize, bytes: &[u8], at: usize) -> Stop
     requires { ⌜ (held ≤ headRoom) × (headRoom ≤ length (now line)) × (at ≤ length (now bytes)) ⌝ }
     ensures { λ r. ⌜ HeldUpTo (now (bytes .entry)) at held (now (line .entry)) (r .at) (r .held) (now (line .exit)) ⌝ }
@@ -76,11 +79,18 @@ fn hold(line: &mut [u8], held: usize, bytes: &[u8], at: usize) -> Stop
     let mut i = at;
     let mut h = held;
     while i < bytes.len() {
+        if HEAD_ROOM <= h {
+            return Stop {
+                at: line_end(bytes, i),
+                held: h,
+            };
+        }
         let b = bytes[i];
         if b == b'\n' {
             return Stop { at: i, held: h };
         }
-        h = hold_byte(line, h, b);
+        line[h] = b;
+        h += 1;
         i += 1;
     }
     Stop { at: i, held: h }

@@ -5,7 +5,7 @@ use mathlib.Core.Path.{_≡_}
 use Prim.Native.Nat.{_-_, _≤_}
 use lib.ListN.{length}
 use Rattle.translator.specs.Intake.{headRoom, SameRest}
-use Rattle.translator.proofs.ByteLaws.{rest-none, rest-byte, up-to-lf, up-to-end}
+use Rattle.translator.proofs.ByteLaws.{rest-none, rest-held, up-to-lf, up-to-end, up-to-passed}
 use Rattle.translator.proofs.intake.hold.Statement.{statement}
 use Rattle.translator.proofs.intake.hold.Tie as tie
 
@@ -22,12 +22,16 @@ hold-spec =
     Inv-loop
     μ-loop
     (λ c. search (needs, rest-none))
+    (λ c κs. search needs)
+    (λ c. search needs)
+    (λ c. search (needs, up-to-passed))
     (λ c. search needs)
     (λ c. search needs)
     (λ c. search (needs, up-to-lf))
-    (λ c κs. search needs)
     (λ c. search needs)
     (λ c. search needs)
-    (λ c. search (needs, rest-byte))
+    (λ c. search needs)
+    (λ c. search needs)
+    (λ c. search (needs, rest-held))
     (λ c. search needs)
     (λ c. search (needs, up-to-end)))
