@@ -1,6 +1,6 @@
 -- No operation changes how long a body's lent bytes are.
 -- Assumes nothing.
-use mathlib.Core.Path.{_≡_, refl, ap, _∙_}
+use mathlib.Core.Path.{_≡_, refl}
 use mathlib.Core.Bool.{Bool, true, false}
 use mathlib.Core.List.{List, [], _∷_}
 use Prim.Native.Nat.{ℕ, _≤_}
@@ -58,24 +58,3 @@ module _ (k : Kept) (s : List ℕ) where
     length-keepAction =
         as-long (k .excess) (ltb (k .actions) maxActions) Actions (keeps k s) _ (λ t.
         length-over s (k .bytes) (k .preconditions ∷ k .effects ∷ []) (counts-room k s h (ltb-true _ _ t) room))
-
--- ---- as the operations' callers know it
-
-module _ (k r : Kept) (s after : List ℕ) where
-  pub after-size : (size : ℕ) → keeps r after ≡ keepSize size (keeps k s) → length after ≡ length s
-  after-size size e = ap (λ x. length (x .body)) e ∙ length-keepSize k s size
-
-  pub after-start : (value : ℕ) → keeps r after ≡ keepStart value (keeps k s) → length after ≡ length s
-  after-start value e = ap (λ x. length (x .body)) e ∙ length-keepStart k s value
-
-  pub after-goal : (p : Pair) → keeps r after ≡ keepGoal p (keeps k s) → goalRoom ≤ length s → length after ≡ length s
-  after-goal p e room = ap (λ x. length (x .body)) e ∙ length-keepGoal k s p room
-
-  pub after-precondition : (p : Pair) → keeps r after ≡ keepPrecondition p (keeps k s) → Sound k → actionsRoom ≤ length s → length after ≡ length s
-  after-precondition p e h room = ap (λ x. length (x .body)) e ∙ length-keepPrecondition k s h room p
-
-  pub after-effect : (p : Pair) → keeps r after ≡ keepEffect p (keeps k s) → Sound k → actionsRoom ≤ length s → length after ≡ length s
-  after-effect p e h room = ap (λ x. length (x .body)) e ∙ length-keepEffect k s h room p
-
-  pub after-action : keeps r after ≡ keepAction (keeps k s) → Sound k → actionsRoom ≤ length s → length after ≡ length s
-  after-action e h room = ap (λ x. length (x .body)) e ∙ length-keepAction k s h room

@@ -130,11 +130,6 @@ module _ (s : Stated) (b : BeforeOperators s) where
   unfolding withGoal
   before-goal p = record { no-actions = b .no-actions; no-pairs = b .no-pairs }
 
--- behind an operator's pairs none is half read
-pub none-half-read : (s : Stated) → withAction s .action ≡ noAction
-unfolding withAction
-none-half-read s = refl
-
 -- an action over a limit has not been met yet
 over-not : {X : Type 0} (s : Stated) (j : ℕ) → BeforeOperators s → Over s j → X
 over-not s j b (number e l) = absurd (omega (arith, ap length (b .no-actions)))

@@ -12,6 +12,17 @@ ghost use Rattle.textlines.specs.Says.{saysNothing, againstFormat, oldIn
 
 const FORMAT_VERSION: usize = 3;
 
+const HIGHEST_METRIC: usize = 1;
+
+// The words of an effect's line: the count of its conditions, the variable, its old and its new value.
+const EFFECT_WORDS: usize = 4;
+
+const VARIABLE_AT: usize = 1;
+
+const OLD_AT: usize = 2;
+
+const NEW_AT: usize = 3;
+
 pub fn nothing_said() -> Said
     ensures { λ r. ⌜ r ≡ saysNothing ⌝ }
 {
@@ -55,7 +66,7 @@ pub fn metric_line(at: usize, line: &[u8]) -> Said
     if !plain::is_plain(line) {
         return against_format(at);
     }
-    if 1 < plain::number(line) {
+    if HIGHEST_METRIC < plain::number(line) {
         return against_format(at);
     }
     nothing_said()
@@ -124,16 +135,16 @@ pub fn fact_line(at: usize, line: &[u8]) -> Said
 fn is_effect(line: &[u8]) -> bool
     ensures { λ r. ⌜ r ≡ isEffect (now (line .entry)) ⌝ }
 {
-    if !words::has_words(line, 4) {
+    if !words::has_words(line, EFFECT_WORDS) {
         return false;
     }
-    if !plain::is_plain_at(line, 1) {
+    if !plain::is_plain_at(line, VARIABLE_AT) {
         return false;
     }
-    if !plain::is_signed(words::word_at(line, 2)) {
+    if !plain::is_signed(words::word_at(line, OLD_AT)) {
         return false;
     }
-    plain::is_plain_at(line, 3)
+    plain::is_plain_at(line, NEW_AT)
 }
 
 // The old value that an effect's line says.
@@ -141,7 +152,7 @@ fn old_in(line: &[u8]) -> OldValue
     requires { ⌜ isSigned (wordAt (now line) 2) ≡ true ⌝ }
     ensures { λ r. ⌜ r ≡ oldIn (now (line .entry)) ⌝ }
 {
-    let old = words::word_at(line, 2);
+    let old = words::word_at(line, OLD_AT);
     if plain::is_minus_one(old) {
         return OldValue::Any;
     }
@@ -162,8 +173,8 @@ pub fn effect_line(at: usize, line: &[u8]) -> Said
         return against_format(at);
     }
     Said::Says(Numbers {
-        first: plain::number_at(line, 1),
-        second: plain::number_at(line, 3),
+        first: plain::number_at(line, VARIABLE_AT),
+        second: plain::number_at(line, NEW_AT),
         old: old_in(line),
     })
 }

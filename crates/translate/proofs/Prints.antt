@@ -98,10 +98,6 @@ module _ (t : Taken) (room now : List ℕ) (answer : Translation) where
         within = omega (arith, h, ap length front, length-append line (drop (length line) now));
       }
 
-pub shown-behind : (before after : Taken) (room now : List ℕ) (end : ℕ) → Shown (endText after room) now end → FedSome before after (partRoom * mostParts)
-    → ShownBehind before room now end
-shown-behind before after room now end h s = record { after = after; fed = s; shown = h }
-
 pub shown-same : (t u : Taken) (room now : List ℕ) (end : ℕ) → Shown (endText t room) now end → t ≡ u → Shown (endText u room) now end
 shown-same t u room now end s e = subst (λ x. Shown (endText x room) now end) e s
 

@@ -11,8 +11,8 @@ use Rattle.rules.specs.declared.FormatLine.the-variants.{BeginVersion, Version,
 use Rattle.textlines.specs.declared.OldValue.{OldValue}
 use Rattle.textlines.specs.declared.Numbers.{Numbers}
 use Rattle.bodies.specs.declared.Kept.{Kept}
-use Rattle.bodies.specs.Keeping.{keeps, keepSize, keepStart, keepGoal, keepPrecondition, keepEffect, keepAction}
-use Rattle.translator.specs.Intake.{memory, KeptBodies, keptIn, pairOf, keepOld, effectKept, keepLine}
+use Rattle.bodies.specs.Keeping.{Keeping, keeps, keepSize, keepStart, keepGoal, keepPrecondition, keepEffect, keepAction}
+use Rattle.translator.specs.Intake.{inActions, memory, KeptBodies, keptIn, pairOf, keepOld, effectKept, keepLine}
 
 -- ---- an effect
 
@@ -49,20 +49,25 @@ module _ (due : FormatLine) (said : Numbers) (kept r : Kept) (sizes start goal a
   unfolding keepLine
   goal-kept e h = rw e (ap (λ k. keptIn (k .kept) (memory sizes start (k .body) actions)) h)
 
+  -- what an operation on the actions makes of all that is kept
+  in-actions : (f : Keeping → Keeping) → keeps r after ≡ f (keeps kept actions)
+      → keptIn r (memory sizes start goal after) ≡ inActions f (keptIn kept (memory sizes start goal actions))
+  in-actions f h = ap (λ k. keptIn (k .kept) (memory sizes start goal (k .body))) h
+
   pub precondition-kept : due ≡ PrevailCondition → keeps r after ≡ keepPrecondition (pairOf (said .first) (said .second)) (keeps kept actions)
       → keptIn r (memory sizes start goal after) ≡ keepLine due said (keptIn kept (memory sizes start goal actions))
   unfolding keepLine
-  precondition-kept e h = rw e (ap (λ k. keptIn (k .kept) (memory sizes start goal (k .body))) h)
+  precondition-kept e h = rw e (in-actions (keepPrecondition (pairOf (said .first) (said .second))) h)
 
   pub effect-kept : due ≡ Effect → keeps r after ≡ effectKept said (keeps kept actions)
       → keptIn r (memory sizes start goal after) ≡ keepLine due said (keptIn kept (memory sizes start goal actions))
   unfolding keepLine
-  effect-kept e h = rw e (ap (λ k. keptIn (k .kept) (memory sizes start goal (k .body))) h)
+  effect-kept e h = rw e (in-actions (effectKept said) h)
 
   pub action-kept : due ≡ Cost → keeps r after ≡ keepAction (keeps kept actions)
       → keptIn r (memory sizes start goal after) ≡ keepLine due said (keptIn kept (memory sizes start goal actions))
   unfolding keepLine
-  action-kept e h = rw e (ap (λ k. keptIn (k .kept) (memory sizes start goal (k .body))) h)
+  action-kept e h = rw e (in-actions keepAction h)
 
 -- the numbers of the lines that add nothing
 abbrev others : List ℕ

@@ -6,7 +6,7 @@ use mathlib.Core.Bool.{true, false}
 use mathlib.Core.List.{List, _++_, tail}
 use Prim.Native.Nat.{ℕ, suc, _<_}
 use native.Mathlib.Omega.{arith}
-use lib.ListN.{take, getD}
+use lib.ListN.{length, take, getD}
 use Rattle.rules.specs.Answers.{judge}
 use Rattle.rules.specs.Task.{Pair}
 use Rattle.rules.specs.Format.{Stated, noAction, withSize, withStart, withGoal, withPrecondition, withEffect, withAction, shapeOf, lineRules, lineNumber, hasOld, oldFact, newFact, factIn, linesAnnounced, stated}
@@ -19,7 +19,7 @@ use Rattle.rules.specs.declared.Verdict.the-variants.{Accepted, Refused}
 use Rattle.rules.proofs.Bools.{either}
 use Rattle.textlines.specs.Says.{numbersIn, saidBy, shapeSays, saysAs}
 use Rattle.textlines.proofs.Deciding.{decided-by-head}
-use Rattle.bodies.specs.Keeping.{keeps, keepSize, keepStart, keepGoal, keepPrecondition, keepEffect, keepAction}
+use Rattle.bodies.specs.Keeping.{Keeping, keeps, keepSize, keepStart, keepGoal, keepPrecondition, keepEffect, keepAction}
 use Rattle.bodies.proofs.KeepLengths.{length-keepSize, length-keepStart, length-keepGoal, length-keepPrecondition, length-keepEffect, length-keepAction}
 use Rattle.bodies.proofs.States.{States, BeforeOperators, states-size, states-start, states-goal, states-precondition, states-effect, states-action}
 use Rattle.translator.specs.Position.{lineDue, movedOn}
@@ -75,44 +75,37 @@ module _ (s : Stated) (k : KeptBodies) (h : Keeps s k) where
             };
       }
 
-  keeps-precondition : (p : Pair) → Keeps (withPrecondition p s) (inActions (keepPrecondition p) k)
-  keeps-precondition p =
+  -- an operation on the actions, which leaves them as long
+  keeps-in-actions : (t : Stated) (f : Keeping → Keeping)
+      → States t (f (keeps (k .kept) (k .memory .actions)) .kept) (k .memory .sizes) (k .memory .start) (k .memory .goal)
+      (f (keeps (k .kept) (k .memory .actions)) .body)
+      → length (f (keeps (k .kept) (k .memory .actions)) .body) ≡ length (k .memory .actions) → Keeps t (inActions f k)
+  keeps-in-actions t f states as-long =
       record {
-        states = states-precondition s (k .kept) (k .memory .sizes) (k .memory .start) (k .memory .goal) (k .memory .actions) (h .states) p (h .lent .actions);
+        states = states;
         lent =
             record {
               sizes = h .lent .sizes;
               start = h .lent .start;
               goal = h .lent .goal;
-              actions = omega (arith, h .lent .actions, length-keepPrecondition (k .kept) (k .memory .actions) (h .states .sound) (h .lent .actions) p);
+              actions = omega (arith, h .lent .actions, as-long);
             };
       }
+
+  keeps-precondition : (p : Pair) → Keeps (withPrecondition p s) (inActions (keepPrecondition p) k)
+  keeps-precondition p =
+      keeps-in-actions (withPrecondition p s) (keepPrecondition p) (states-precondition s _ _ _ _ _ (h .states) p (h .lent .actions))
+      (length-keepPrecondition _ _ (h .states .sound) (h .lent .actions) p)
 
   keeps-effect : (p : Pair) → Keeps (withEffect p s) (inActions (keepEffect p) k)
   keeps-effect p =
-      record {
-        states = states-effect s (k .kept) (k .memory .sizes) (k .memory .start) (k .memory .goal) (k .memory .actions) (h .states) p (h .lent .actions);
-        lent =
-            record {
-              sizes = h .lent .sizes;
-              start = h .lent .start;
-              goal = h .lent .goal;
-              actions = omega (arith, h .lent .actions, length-keepEffect (k .kept) (k .memory .actions) (h .states .sound) (h .lent .actions) p);
-            };
-      }
+      keeps-in-actions (withEffect p s) (keepEffect p) (states-effect s _ _ _ _ _ (h .states) p (h .lent .actions))
+      (length-keepEffect _ _ (h .states .sound) (h .lent .actions) p)
 
   keeps-action : Keeps (withAction s) (inActions keepAction k)
   keeps-action =
-      record {
-        states = states-action s (k .kept) (k .memory .sizes) (k .memory .start) (k .memory .goal) (k .memory .actions) (h .states) (h .lent .actions);
-        lent =
-            record {
-              sizes = h .lent .sizes;
-              start = h .lent .start;
-              goal = h .lent .goal;
-              actions = omega (arith, h .lent .actions, length-keepAction (k .kept) (k .memory .actions) (h .states .sound) (h .lent .actions));
-            };
-      }
+      keeps-in-actions (withAction s) keepAction (states-action s _ _ _ _ _ (h .states) (h .lent .actions))
+      (length-keepAction _ _ (h .states .sound) (h .lent .actions))
 
 -- an effect's old value is a precondition where there is one
 keeps-old : (s : Stated) (k : KeptBodies) → Keeps s k → (text : List ℕ)

@@ -296,7 +296,7 @@ unfolding takeAll
 going-all t [] g = g
 going-all t (b ∷ bytes) g = going-all (takeByte t b) bytes (going-byte t b g)
 
-pub ready-room : (t : Taken) → Ready t → hasRoom t ≡ true
+ready-room : (t : Taken) → Ready t → hasRoom t ≡ true
 unfolding hasRoom roomFor countsFit actionsFit lentFits
 ready-room t r =
     let k : Kept = t .intake .kept in

@@ -2,7 +2,7 @@
 -- Assumes nothing.
 use borrow.Author.Needs.{needs}
 use Rattle.textlines.specs.Says.{saysAs}
-use Rattle.textlines.proofs.ShapeLaws.{fact-says, says-as}
+use Rattle.textlines.proofs.ShapeLaws.{says-as}
 use Rattle.textlines.proofs.says.Statement.{statement}
 use Rattle.textlines.proofs.says.Tie as tie
 
@@ -13,6 +13,6 @@ says-spec =
     (tie.spec
     (λ c. search needs)
     (λ c κs. search needs)
-    (λ c. search (needs, says-as, fact-says))
+    (λ c. search (needs, says-as))
     (λ c κs. search needs)
     (λ c. search needs))

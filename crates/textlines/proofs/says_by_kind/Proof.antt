@@ -64,7 +64,7 @@ says-by-kind-spec =
     (λ c. search (needs, says-as, number-says))
     (λ c. search (needs, says-as))
     (λ c. search (needs, says-as, number-says))
-    (λ c. search (needs, says-as, fact-says))
+    (λ c. search (needs, says-as))
     (λ c. search (needs, says-as))
     (λ c. search (needs, says-as))
     (λ c. search (needs, says-as, number-says))

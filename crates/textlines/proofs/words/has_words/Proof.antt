@@ -6,7 +6,7 @@ use borrow.Author.Needs.{needs}
 use lib.Dec.{eqb}
 use lib.ListN.{length, drop}
 use Rattle.rules.specs.Format.{wordCount}
-use Rattle.textlines.proofs.WordPlaces.{count-start, count-none, count-last, count-on}
+use Rattle.textlines.proofs.WordPlaces.{count-none, count-last, count-on}
 use Rattle.textlines.proofs.words.has_words.Statement.{statement}
 use Rattle.textlines.proofs.words.has_words.Tie as tie
 
@@ -22,7 +22,7 @@ has-words-spec =
     (tie.spec
     Inv-loop
     μ-loop
-    (λ c. search (needs, count-start))
+    (λ c. search needs)
     (λ c κs. search needs)
     (λ c. search (needs, count-last))
     (λ c. search needs)

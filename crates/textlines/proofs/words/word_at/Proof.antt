@@ -5,7 +5,7 @@ use Prim.Native.Nat.{_≤_}
 use borrow.Author.Needs.{needs}
 use lib.ListN.{length, drop}
 use Rattle.rules.specs.Format.{wordAt}
-use Rattle.textlines.proofs.WordPlaces.{word-start, word-none, word-on, word-here}
+use Rattle.textlines.proofs.WordPlaces.{word-none, word-on, word-here}
 use Rattle.textlines.proofs.words.word_at.Statement.{statement}
 use Rattle.textlines.proofs.words.word_at.Tie as tie
 
@@ -21,7 +21,7 @@ word-at-spec =
     (tie.spec
     Inv-loop
     μ-loop
-    (λ c. search (needs, word-start))
+    (λ c. search needs)
     (λ c κs. search needs)
     (λ c. search needs)
     (λ c. search needs)
