@@ -41,9 +41,6 @@ module _ (line : List ℕ) (at end : ℕ) (ends : EndsAt line at end) where
 
 -- ---- a word
 
-pub word-start : (line : List ℕ) (i : ℕ) → wordAt (drop 0 line) i ≡ wordAt line i
-word-start line i = refl
-
 pub word-first : (s w : List ℕ) (ws : List (List ℕ)) (k : ℕ) → pieces space s ≡ w ∷ ws → k ≤ 0 → wordAt s k ≡ w
 unfolding wordAt
 word-first s w ws zero e h = ap (λ l. getD l 0 []) e
@@ -68,9 +65,6 @@ module _ (line : List ℕ) (at end before i : ℕ) (left : wordAt (drop at line)
   word-here h = sym (word-first _ _ _ before (pieces-from line at end ends) h) ∙ left
 
 -- ---- how many
-
-pub count-start : (line : List ℕ) (count : ℕ) → eqb (wordCount (drop 0 line)) count ≡ eqb (wordCount line) count
-count-start line count = refl
 
 -- there is always one
 pub count-some : (s : List ℕ) → 0 < wordCount s
