@@ -19,10 +19,10 @@ use Rattle.rules.specs.Problem.{Problem}
 use Rattle.rules.specs.Numbering.{N}
 use Rattle.rules.specs.Families.{C, clause}
 use Rattle.rules.specs.Text.{clauseLine, headerLine}
-use Rattle.rules.specs.Rows.{Rows, wordBits, wordsFor, bitOfVariable, packed, overRow}
-use Rattle.rules.specs.Truth.{modelIn}
+use Rattle.rules.specs.Rows.{Rows, wordBits, wordsFor, packed, overRow}
+use Rattle.rules.specs.Truth.{modelIn, completion}
 use Rattle.rules.specs.Walk.{CarriedOut, entry, scheduleRules}
-use Rattle.rules.specs.Readings.{scheduleOf, assignmentOf, rowsOf}
+use Rattle.rules.specs.Readings.{scheduleOf, assignmentOf, rowsHolding, rowsOf}
 use Rattle.rules.specs.Lines.{rowsFit}
 use Rattle.rules.specs.Output.{outcome}
 use Rattle.rules.specs.Calls.{problemOf, problemRules, clauseRules, roomRule, lentRules, lentAfter, rowsAfter, problemVerdict, clauseVerdict, headerVerdict, clauseLineVerdict, endVerdict, endEntries, backVerdict, backRows}
@@ -35,12 +35,11 @@ use Rattle.rules.proofs.Bools.{and-left, and-both}
 use Rattle.rules.proofs.Judging.{judge-nil, judge-cons, judge-append, inTurn-left, inTurn-right, inTurn-both}
 use Rattle.rules.proofs.Bits.{length-packed}
 use Rattle.rules.proofs.Valid.{WellFormed}
-use Rattle.rules.proofs.Proved.{demand2}
-use Rattle.rules.proofs.Demands.{Demand2}
 use Rattle.rules.proofs.Files.{accepted-well-formed}
 use Rattle.rules.proofs.Endings.{ModelHolds, accepted-holds, holds-accepted}
 use Rattle.rules.proofs.Schedules.{carried-out, out-carried, length-schedule, length-assignment, carried-ext, assignment-entries}
-use Rattle.rules.proofs.InRows.{rows-good, rows-back, schedule-rows, schedule-again}
+use Rattle.rules.proofs.Completed.{model-good}
+use Rattle.rules.proofs.InRows.{rows-back, schedule-rows, schedule-again}
 
 module _ (file : List ℕ) (k : ℕ) where
   abbrev P : Problem
@@ -59,12 +58,12 @@ module _ (file : List ℕ) (k : ℕ) where
         → (backVerdict file k entries rows ≡ Accepted) ↔ CarriedOut (taskOf file) k entries
     pub becomes-model : (entries : List ℕ) (rows : Rows) → backVerdict file k entries rows ≡ Accepted → backRows file k entries rows ≡ rowsOf P entries rows
 
-  -- Demand 3: the way back of what the end wrote is the model that it read, and the end of what the way back wrote is its schedule
+  -- Demand 3: the way back of what the end wrote is the completion of the model that it read, and the end of what the way back wrote is its schedule
   pub record CallsPair : Type 0 where
     pub end-then-back : (phase : Phase) (rows lent : Rows) (entries : List ℕ) → rowsFit (N P) lent ≡ true
         → endVerdict file k phase rows entries ≡ Accepted
         → (backVerdict file k (endEntries file k phase rows entries) lent ≡ Accepted)
-        × ((i : ℕ) → i < N P → bitOfVariable (backRows file k (endEntries file k phase rows entries) lent .isTrue) (suc i) ≡ bitOfVariable (rows .isTrue) (suc i))
+        × (backRows file k (endEntries file k phase rows entries) lent ≡ rowsHolding P (completion P (modelIn rows)) lent)
     pub back-then-end : (rows : Rows) (entries lent : List ℕ) → k ≤ length lent → k ≤ length entries
         → backVerdict file k entries rows ≡ Accepted
         → (endVerdict file k ModelClosed (backRows file k entries rows) lent ≡ Accepted)
@@ -154,7 +153,7 @@ module _ (file : List ℕ) (fine : fileVerdict file ≡ Accepted) (k : ℕ) (sma
           (omega (arith, length-append (packed bits) (drop (length (packed bits)) row), length-packed bits))
 
   pub calls-pair : CallsPair file k
-  unfolding problemOf
+  unfolding problemOf rowsOf
   calls-pair =
       let well : WellFormed T = accepted-well-formed file fine in
       record {
@@ -165,16 +164,13 @@ module _ (file : List ℕ) (fine : fileVerdict file ≡ Accepted) (k : ℕ) (sma
             let long : k ≤ length written =
             omega (arith, length-append (scheduleOf (P file k) (modelIn rows)) (drop k entries), length-schedule T k (modelIn rows)) in
             let c : CarriedOut T k written =
-            carried-ext T k (scheduleOf (P file k) (modelIn rows)) written (written-entry rows entries) (rows-good T well k rows (m .complete) (m .all-true)) in
+            carried-ext T k (scheduleOf (P file k) (modelIn rows)) written (written-entry rows entries) (model-good T well k (modelIn rows) (m .all-true)) in
             let accepted : backVerdict file k written lent ≡ Accepted = back-accepted written lent f long c in
             rw is (
               accepted,
-              λ i l.
-                  ap (λ r. bitOfVariable (r .isTrue) (suc i)) (calls-answer .becomes-model written lent accepted)
-                  ∙ demand2 T k .rows-hold written lent i l .1
-                  ∙ ap (λ b. getD b i false) (sym (assignment-entries T k _ written (written-entry rows entries)))
-                  ∙ sym (demand2 T k .rows-hold (scheduleOf (P file k) (modelIn rows)) lent i l .1)
-                  ∙ rows-back T well k rows lent (m .complete) (m .all-true) i l,
+              calls-answer .becomes-model written lent accepted
+                  ∙ ap (λ bits. rowsHolding (P file k) bits lent) (sym (assignment-entries T k _ written (written-entry rows entries)))
+                  ∙ rows-back T well k rows lent (m .all-true),
             );
         back-then-end = λ rows entries lent l size h.
             let c : CarriedOut T k entries = back-carried entries rows h in

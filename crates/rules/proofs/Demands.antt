@@ -15,7 +15,7 @@ use Rattle.rules.specs.Families.{family1, family2, family3, family4, fam
 use Rattle.rules.specs.Counts.{sum, countTable}
 use Rattle.rules.specs.Text.{ascii, decimal, space, lf, headerLine}
 use Rattle.rules.specs.Rows.{Rows, bitOfVariable}
-use Rattle.rules.specs.Truth.{satisfies, assigned}
+use Rattle.rules.specs.Truth.{Model, satisfies, assigned, completion}
 use Rattle.rules.specs.Walk.{scheduleRules, CarriedOut, Good, isPlan}
 use Rattle.rules.specs.Readings.{scheduleOf, assignmentOf, rowsOf}
 use Rattle.rules.specs.Output.{outcome}
@@ -27,8 +27,9 @@ module _ (T : Task) (k : ℕ) where
   abbrev P : Problem
   P = problem T k
 
-  -- Demand 2: the formula is the eight families in order, with true counts in its header; a closed model is accepted exactly if all N variables are
-  -- given and every clause is true; a schedule is accepted exactly if its moves can be carried out and reach the goal, and its rows hold its assignment.
+  -- Demand 2: the formula is the eight families in order, with true counts in its header; a closed model is accepted exactly if every clause has a true
+  -- literal among those named, and states the schedule of its completion; a schedule is accepted exactly if its moves can be carried out and reach the
+  -- goal, and its rows hold its assignment.
   pub record Demand2 : Type 0 where
     pub in-order :
         formula P ≡ joined (family1 P ∷ family2 P ∷ family3 P ∷ family4 P ∷ family5 P ∷ family6 P ∷ family7 P ∷ family8 P ∷ [])
@@ -36,22 +37,24 @@ module _ (T : Task) (k : ℕ) where
     pub header :
         headerLine P ≡ ascii "p cnf " ++ decimal (k * (S T + A T) + S T) ++ (space ∷ []) ++ decimal (sum (countTable T k)) ++ (lf ∷ [])
     pub model : (phase : Phase) (rows : Rows) → (outcome P phase rows ≡ Accepted) ↔ ModelHolds P phase rows
+    pub states : (M : Model) → scheduleOf P M ≡ scheduleOf P (assigned (completion P M))
     pub schedule : (entries : List ℕ) → (judge (scheduleRules T k entries) ≡ Accepted) ↔ CarriedOut T k entries
     pub rows-hold : (entries : List ℕ) (rows : Rows) (i : ℕ) → i < N P
         → (bitOfVariable (rowsOf P entries rows .given) (suc i) ≡ true)
         × (bitOfVariable (rowsOf P entries rows .isTrue) (suc i) ≡ getD (assignmentOf P entries) i false)
 
-  -- an assignment of the N variables that makes every clause true
-  pub record Satisfying (bits : List Bool) : Type 0 where
-    pub size : length bits ≡ N P
-    pub all-true : satisfies (assigned bits) (formula P) ≡ true
+  -- every clause has a true literal among those that the model names
+  abbrev pub Satisfying : Model → Type 0
+  Satisfying M = satisfies M (formula P) ≡ true
 
-  -- Demand 3: satisfying assignments and good schedules pair off one to one by the readings of demand 2, no two assignments share a schedule, and
-  -- there is a satisfying assignment exactly if there is a plan of at most k moves.
+  -- Demand 3: the completions of satisfying models, which are the satisfying assignments of the N variables, and the good schedules pair off one to one
+  -- by the readings of demand 2, no two completions share a schedule, and there is a satisfying model exactly if there is a plan of at most k moves.
   pub record Demand3 : Type 0 where
-    pub to-schedule : (bits : List Bool) → Satisfying bits → Good T k (scheduleOf P (assigned bits))
-    pub to-assignment : (entries : List ℕ) → Good T k entries → Satisfying (assignmentOf P entries)
-    pub there-and-back : (bits : List Bool) → Satisfying bits → assignmentOf P (scheduleOf P (assigned bits)) ≡ bits
+    pub completed : (M : Model) → Satisfying M → Satisfying (assigned (completion P M))
+    pub own-completion : (bits : List Bool) → length bits ≡ N P → completion P (assigned bits) ≡ bits
+    pub to-schedule : (M : Model) → Satisfying M → Good T k (scheduleOf P M)
+    pub to-assignment : (entries : List ℕ) → Good T k entries → (length (assignmentOf P entries) ≡ N P) × Satisfying (assigned (assignmentOf P entries))
+    pub there-and-back : (M : Model) → Satisfying M → assignmentOf P (scheduleOf P M) ≡ completion P M
     pub back-and-there : (entries : List ℕ) → Good T k entries → scheduleOf P (assigned (assignmentOf P entries)) ≡ entries
-    pub no-two : (bits bits′ : List Bool) → Satisfying bits → Satisfying bits′ → scheduleOf P (assigned bits) ≡ scheduleOf P (assigned bits′) → bits ≡ bits′
-    pub plan : ((bits : List Bool) × Satisfying bits) ↔ ((moves : List ℕ) × (length moves ≤ k) × (isPlan T moves ≡ true))
+    pub no-two : (M M′ : Model) → Satisfying M → Satisfying M′ → scheduleOf P M ≡ scheduleOf P M′ → completion P M ≡ completion P M′
+    pub plan : ((M : Model) × Satisfying M) ↔ ((moves : List ℕ) × (length moves ≤ k) × (isPlan T moves ≡ true))

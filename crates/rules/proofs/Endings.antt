@@ -1,27 +1,28 @@
--- The end of a reading in words: a closed model is accepted exactly if every variable is given and every clause is true.
+-- The end of a reading in words: a closed model is accepted exactly if every clause has a true literal among those named.
 -- Assumes nothing.
 use mathlib.Core.Path.{_≡_, refl, sym, ap, _∙_}
-use mathlib.Core.Bool.{true, not}
+use mathlib.Core.Bool.{true, false, not}
 use mathlib.Core.List.{[]}
-use Prim.Native.Nat.{ℕ, suc, _<_}
-use Rattle.rules.specs.Answers.{judge}
+use Prim.Native.Nat.{ℕ, _<_}
+use lib.Dec.{eqb}
+use Rattle.rules.specs.Answers.{judge, answerOf}
 use Rattle.rules.specs.Problem.{Problem}
-use Rattle.rules.specs.Numbering.{N}
 use Rattle.rules.specs.Families.{C, clause, formula}
 use Rattle.rules.specs.Rows.{Rows}
-use Rattle.rules.specs.Truth.{Complete, clauseTrue, satisfies, modelIn}
+use Rattle.rules.specs.Truth.{clauseTrue, satisfies, modelIn}
 use Rattle.rules.specs.Output.{ending, modelRules, outcome}
+use Rattle.rules.specs.declared.Refusal.{Refusal}
+use Rattle.rules.specs.declared.Refusal.the-variants.{FileLength, ContentsRow, BodyLength, DomainSize, StartValue, GoalPair, ActionAtFault, Horizon, ClauseNumber, Room, Grammar, OutOfPlace, OverN, GivenBefore, Unfinished, FalseClause, Unsatisfiable, Unknown, EntryOverA, DoesNotApply, GoalUnmet, AgainstFormat, AxiomOrCondition, OtherVersion}
 use Rattle.rules.specs.declared.Verdict.the-variants.{Accepted}
 use Rattle.rules.specs.declared.Phase.{Phase}
 use Rattle.rules.specs.declared.Phase.the-variants.{NoStatus, ModelOpen, ModelClosed, SaidUnsatisfiable, SaidUnknown}
 use Rattle.rules.proofs.Bools.{not-false}
 use Rattle.rules.proofs.Counting.{none-at, none-test, every-by, every-getD}
-use Rattle.rules.proofs.Judging.{refused-not, judge-head, judge-tail, judge-cons, judge-nil, inTurn-left, inTurn-right, inTurn-both}
+use Rattle.rules.proofs.Judging.{refused-not, judge-head, judge-cons, judge-nil, inTurn-left, inTurn-right, inTurn-both}
 
--- the status says SATISFIABLE and the model is closed, every variable is given, and every clause is true
+-- the status says SATISFIABLE, the model is closed, and every clause is true by a literal that it names
 pub record ModelHolds (P : Problem) (phase : Phase) (rows : Rows) : Type 0 where
   pub closed : phase ≡ ModelClosed
-  pub complete : Complete P rows
   pub all-true : satisfies (modelIn rows) (formula P) ≡ true
 
 accepted-closed : (phase : Phase) → ending phase ≡ Accepted → phase ≡ ModelClosed
@@ -38,18 +39,43 @@ module _ (P : Problem) (rows : Rows) where
       let m = inTurn-right (ending phase) _ h in
       record {
         closed = accepted-closed phase (inTurn-left (ending phase) _ h);
-        complete = λ i l. not-false _ (none-at (N P) (λ i. not (modelIn rows .given (suc i))) (judge-head _ _ m) i l);
         all-true =
             every-by (clauseTrue (modelIn rows)) (formula P) [] (λ c l.
-            not-false _ (none-at (C P) (λ c. not (clauseTrue (modelIn rows) (clause P c))) (judge-head _ _ (judge-tail _ _ m)) c l));
+            not-false _ (none-at (C P) (λ c. not (clauseTrue (modelIn rows) (clause P c))) (judge-head _ _ m) c l));
       }
 
   pub holds-accepted : (phase : Phase) → ModelHolds P phase rows → outcome P phase rows ≡ Accepted
   unfolding outcome modelRules satisfies C clause
   holds-accepted phase m =
       inTurn-both _ _ (ap ending (m .closed))
-      (judge-cons _ _ (none-test (N P) (λ i. not (modelIn rows .given (suc i))) (λ i l. ap not (m .complete i l)))
       (judge-cons _ _
       (none-test (C P) (λ c. not (clauseTrue (modelIn rows) (clause P c)))
       (λ i l. ap not (every-getD (clauseTrue (modelIn rows)) (formula P) [] (m .all-true) i l)))
-      judge-nil))
+      judge-nil)
+
+-- no refusal has the number 16: it stood for a variable that is not given
+pub never-16 : (why : Refusal) → eqb (answerOf why .number) 16 ≡ false
+never-16 FileLength = refl
+never-16 (ContentsRow r) = refl
+never-16 BodyLength = refl
+never-16 (DomainSize x) = refl
+never-16 (StartValue x) = refl
+never-16 (GoalPair i) = refl
+never-16 (ActionAtFault a) = refl
+never-16 Horizon = refl
+never-16 ClauseNumber = refl
+never-16 Room = refl
+never-16 (Grammar i) = refl
+never-16 (OutOfPlace i) = refl
+never-16 (OverN i) = refl
+never-16 (GivenBefore i) = refl
+never-16 Unfinished = refl
+never-16 (FalseClause c) = refl
+never-16 Unsatisfiable = refl
+never-16 Unknown = refl
+never-16 (EntryOverA t) = refl
+never-16 (DoesNotApply t) = refl
+never-16 (GoalUnmet i) = refl
+never-16 (AgainstFormat line) = refl
+never-16 (AxiomOrCondition line) = refl
+never-16 (OtherVersion line) = refl

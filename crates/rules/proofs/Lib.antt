@@ -28,6 +28,7 @@ pub mod Within
 pub mod Moves
 pub mod Pairing
 pub mod Schedules
+pub mod Completed
 pub mod Plans
 pub mod Endings
 pub mod Listed

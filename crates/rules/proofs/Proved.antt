@@ -19,7 +19,8 @@ use Rattle.rules.proofs.Valid.{WellFormed, valid-well-formed}
 use Rattle.rules.proofs.Bits.{packed-bit}
 use Rattle.rules.proofs.Counts.{counts, C-is}
 use Rattle.rules.proofs.Endings.{accepted-holds, holds-accepted}
-use Rattle.rules.proofs.Schedules.{carried-out, out-carried, length-assignment, length-schedule, schedule-good, assignment-back, assignment-good, schedule-back}
+use Rattle.rules.proofs.Schedules.{carried-out, out-carried, length-assignment, length-schedule, assignment-good, schedule-back}
+use Rattle.rules.proofs.Completed.{own-completion, completed-schedule, completed-true, model-good, model-back}
 use Rattle.rules.proofs.Plans.{movesOf, moves-most, schedule-plan, padded, length-padded, plan-schedule}
 use Rattle.rules.proofs.Demands.{Demand2, Satisfying, Demand3}
 
@@ -32,6 +33,7 @@ demand2 T k =
       counted = counts T k;
       header = ap (λ c. ascii "p cnf " ++ decimal (N P) ++ (space ∷ []) ++ decimal c ++ (lf ∷ [])) (C-is T k);
       model = λ phase rows. (accepted-holds P rows phase, holds-accepted P rows phase);
+      states = completed-schedule P;
       schedule = λ entries. (carried-out T k entries, out-carried T k entries);
       rows-hold = λ entries rows i l. (
         packed-bit (replicate (N P) true) (rows .given) i (omega (arith, length-replicate {A = Bool} (N P) true)) ∙ getD-replicate (N P) i true false l,
@@ -43,26 +45,24 @@ pub demand3 : (T : Task) → Valid T → (k : ℕ) → Demand3 T k
 demand3 T valid k =
     let P : Problem = problem T k in
     let fine : WellFormed T = valid-well-formed T valid in
-    let good : (bits : List Bool) → Satisfying T k bits → CarriedOut T k (scheduleOf P (assigned bits)) =
-    λ bits b. schedule-good T k fine bits (b .size) (b .all-true) in
-    let satisfying : (entries : List ℕ) → CarriedOut T k entries → Satisfying T k (assignmentOf P entries) =
-    λ entries c. record { size = length-assignment T k entries; all-true = assignment-good T k fine entries c } in
-    let back : (bits : List Bool) → Satisfying T k bits → assignmentOf P (scheduleOf P (assigned bits)) ≡ bits =
-    λ bits b. assignment-back T k fine bits (b .size) (b .all-true) in
+    let satisfying : (entries : List ℕ) → CarriedOut T k entries → Satisfying T k (assigned (assignmentOf P entries)) =
+    λ entries c. assignment-good T k fine entries c in
     record {
-      to-schedule = λ bits b. record { entries = length-schedule T k (assigned bits); carried = good bits b };
-      to-assignment = λ entries g. satisfying entries (g .carried);
-      there-and-back = back;
+      completed = completed-true T fine k;
+      own-completion = own-completion P;
+      to-schedule = λ M t. record { entries = length-schedule T k M; carried = model-good T fine k M t };
+      to-assignment = λ entries g. (length-assignment T k entries, satisfying entries (g .carried));
+      there-and-back = model-back T fine k;
       back-and-there = λ entries g.
           schedule-back T k fine entries (omega (arith, g .entries)) (g .carried) ∙ take-all k entries (omega (arith, g .entries));
-      no-two = λ bits bits′ b b′ e. sym (back bits b) ∙ ap (assignmentOf P) e ∙ back bits′ b′;
+      no-two = λ M M′ t t′ e. sym (model-back T fine k M t) ∙ ap (assignmentOf P) e ∙ model-back T fine k M′ t′;
       plan = (
         λ m.
-            let schedule = scheduleOf P (assigned (m .0)) in
-            let size = length-schedule T k (assigned (m .0)) in
-            (movesOf T schedule, omega (arith, moves-most T schedule), schedule-plan T k schedule size (good (m .0) (m .1))),
+            let schedule = scheduleOf P (m .0) in
+            let size = length-schedule T k (m .0) in
+            (movesOf T schedule, omega (arith, moves-most T schedule), schedule-plan T k schedule size (model-good T fine k (m .0) (m .1))),
         λ p.
             let schedule = padded T (p .0) (k - length (p .0)) in
-            (assignmentOf P schedule, satisfying schedule (plan-schedule T k (p .0) (p .1) (p .2))),
+            (assigned (assignmentOf P schedule), satisfying schedule (plan-schedule T k (p .0) (p .1) (p .2))),
       );
     }

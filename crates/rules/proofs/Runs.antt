@@ -48,7 +48,7 @@ runs =
     ∷ run (clausesOutput []) (ascii "refused 1 0\n")
     ∷ run (modelRun 2 "c a model\ns SATISFIABLE\nv 1 -2 3 -4 5 -6 -7 8 9 -10\nv -11 12 13 -14 -15 16 0\n") (ascii "1\n2\n")
     ∷ run (modelRun 2 "s SATISFIABLE\nv 1 -2 3 -4 5 -6 -7 8 9 -10 -11 12 13 -14 -15 -16 0") (ascii "refused 17 2\n")
-    ∷ run (modelRun 2 "s SATISFIABLE\nv 1 -2 3 -4 5 -6 -7 8 9 -10 -11 12 13 -14 -15 0\n") (ascii "refused 16 16\n")
+    ∷ run (modelRun 2 "s SATISFIABLE\nv 1 -2 3 -4 5 -6 -7 8 9 -10 -11 12 13 -14 -15 0\n") (ascii "refused 17 2\n")
     ∷ run (modelRun 2 "s SATISFIABLE\nv 1 -2 3 -4 5 -6 -7 8 9 -10 -11 12 13 -14 -15 16\n") (ascii "refused 15 0\n")
     ∷ run (modelRun 1 "s UNSATISFIABLE\n") (ascii "refused 18 0\n")
     ∷ run (lineRead ModelOpen "v 11") (13 ∷ 2 ∷ [])

@@ -1,7 +1,9 @@
--- Every literal of the formula names one of the variables 1 to N, so models that agree on these agree on the formula and state one schedule.
+-- Every literal of the formula names one of the variables 1 to N: a model that makes true there what another does satisfies the formula where that one
+-- does, and models that agree there state one schedule.
 -- Assumes nothing.
 use mathlib.Core.Path.{_≡_, refl, sym, ap, ap₂, _∙_}
-use mathlib.Core.Bool.{Bool, true, false, cond, not, _&&_, _||_}
+use mathlib.Core.Logic.{⊎-elim}
+use mathlib.Core.Bool.{Bool, true, cond, not, _&&_}
 use mathlib.Core.List.{List, [], _∷_}
 use Prim.Native.Nat.{ℕ, suc, _-_, _≤_, _<_}
 use native.Mathlib.Omega.{arith}
@@ -12,10 +14,10 @@ use Rattle.rules.specs.Counting.{first, forEach, table, every, any, when
 use Rattle.rules.specs.Task.{Pair, Task, n, d, A, pair, action}
 use Rattle.rules.specs.Problem.{Problem}
 use Rattle.rules.specs.Numbering.{valueNumber, actionNumber, N}
-use Rattle.rules.specs.Families.{Literal, plus, minus, Clause, pairNumber, gives, supporters, formula, C, clause}
+use Rattle.rules.specs.Families.{Literal, plus, minus, Clause, pairNumber, gives, supporters, formula}
 use Rattle.rules.specs.Truth.{Model, literalTrue, clauseTrue, satisfies, assigned}
 use Rattle.rules.specs.Readings.{trueAction, entryOf, scheduleOf}
-use Rattle.rules.proofs.Bools.{and-left, and-right, and-both}
+use Rattle.rules.proofs.Bools.{and-left, and-right, and-both, or-cases, or-left, or-right, same-truth}
 use Rattle.rules.proofs.Counting.{first-ext, forEach-ext, every-one, every-forEach, every-table, every-when, every-getD}
 use Rattle.rules.proofs.EachClause.{every-clause}
 use Rattle.rules.proofs.Valid.{WellFormed, InOrder, Inside, ActionFine}
@@ -84,6 +86,41 @@ module _ (P : Problem) where
         in8 = λ s a b hs l hb e. two (minus _) (minus _) (action-in (minus _) s a refl hs (omega arith)) (action-in (minus _) s b refl hs hb);
       })
 
+  -- ---- models of which one makes every literal true that the other makes true
+
+  abbrev pub SaysMore : Model → Model → Type 0
+  SaysMore M M′ = (l : Literal) → 1 ≤ variableIn l → variableIn l ≤ N P → literalTrue M l ≡ true → literalTrue M′ l ≡ true
+
+  module _ (M M′ : Model) (more : SaysMore M M′) where
+    clause-more : (c : Clause) → allWithin c ≡ true → clauseTrue M c ≡ true → clauseTrue M′ c ≡ true
+    unfolding every clauseTrue any
+    clause-more [] h t = t
+    clause-more (l ∷ c) h t =
+        let here : isWithin l ≡ true = and-left (isWithin l) (allWithin c) h in
+        ⊎-elim (λ u. or-left (literalTrue M′ l) (any (literalTrue M′) c) (more l (within-low l here) (within-up l here) u))
+        (λ u. or-right (literalTrue M′ l) (any (literalTrue M′) c) (clause-more c (and-right (isWithin l) (allWithin c) h) u))
+        (or-cases (literalTrue M l) (any (literalTrue M) c) t)
+
+    clauses-more : (cs : List Clause) → every allWithin cs ≡ true → satisfies M cs ≡ true → satisfies M′ cs ≡ true
+    unfolding every satisfies
+    clauses-more [] h t = t
+    clauses-more (c ∷ cs) h t =
+        and-both _ _ (clause-more c (and-left (allWithin c) (every allWithin cs) h) (and-left (clauseTrue M c) (every (clauseTrue M) cs) t))
+        (clauses-more cs (and-right (allWithin c) (every allWithin cs) h) (and-right (clauseTrue M c) (every (clauseTrue M) cs) t))
+
+    pub satisfied-more : WellFormed (P .task) → satisfies M (formula P) ≡ true → satisfies M′ (formula P) ≡ true
+    satisfied-more fine = clauses-more (formula P) (all-within fine)
+
+  -- models that make the same variables true state one schedule
+  pub schedule-same : (M M′ : Model) → ((v : ℕ) → 1 ≤ v → v ≤ N P → literalTrue M (plus v) ≡ literalTrue M′ (plus v)) → scheduleOf P M ≡ scheduleOf P M′
+  unfolding scheduleOf entryOf trueAction
+  schedule-same M M′ same =
+      forEach-ext (P .horizon) _ _ (λ s hs.
+      ap (λ f. cond (ltb f (A (P .task))) (suc f) 0 ∷ [])
+      (first-ext (A (P .task)) (λ a. literalTrue M (plus (actionNumber P s a))) (λ a. literalTrue M′ (plus (actionNumber P s a))) (λ a ha.
+      let at : AtAction P s a = record { step-of = hs; action-of = ha } in
+      same (actionNumber P s a) (action-number-positive P s a) (action-number-within P s a at))))
+
   -- ---- models that agree on 1 to N
 
   pub record Agree (M M′ : Model) : Type 0 where
@@ -91,40 +128,15 @@ module _ (P : Problem) where
     pub true-alike : (v : ℕ) → 1 ≤ v → v ≤ N P → M .isTrue v ≡ M′ .isTrue v
 
   module _ (M M′ : Model) (agree : Agree M M′) where
-    literal-alike : (l : Literal) → isWithin l ≡ true → literalTrue M l ≡ literalTrue M′ l
+    literal-alike : (l : Literal) → 1 ≤ variableIn l → variableIn l ≤ N P → literalTrue M l ≡ literalTrue M′ l
     unfolding literalTrue
-    literal-alike (plus v) h =
-        let low = within-low (plus v) h in
-        let up = within-up (plus v) h in
-        ap₂ _&&_ (agree .given-alike v low up) (agree .true-alike v low up)
-    literal-alike (minus v) h =
-        let low = within-low (minus v) h in
-        let up = within-up (minus v) h in
-        ap₂ _&&_ (agree .given-alike v low up) (ap not (agree .true-alike v low up))
-
-    clause-alike : (c : Clause) → allWithin c ≡ true → clauseTrue M c ≡ clauseTrue M′ c
-    unfolding every clauseTrue any
-    clause-alike [] h = refl
-    clause-alike (l ∷ c) h =
-        ap₂ _||_ (literal-alike l (and-left (isWithin l) (allWithin c) h)) (clause-alike c (and-right (isWithin l) (allWithin c) h))
-
-    clauses-alike : (cs : List Clause) → every allWithin cs ≡ true → satisfies M cs ≡ satisfies M′ cs
-    unfolding every satisfies
-    clauses-alike [] h = refl
-    clauses-alike (c ∷ cs) h =
-        ap₂ _&&_ (clause-alike c (and-left (allWithin c) (every allWithin cs) h)) (clauses-alike cs (and-right (allWithin c) (every allWithin cs) h))
-
-    -- each clause of the formula by itself
-    pub clause-same : WellFormed (P .task) → (c : ℕ) → c < C P → clauseTrue M (clause P c) ≡ clauseTrue M′ (clause P c)
-    unfolding C clause
-    clause-same fine c l = clause-alike (getD (formula P) c []) (every-getD allWithin (formula P) [] (all-within fine) c l)
+    literal-alike (plus v) low up = ap₂ _&&_ (agree .given-alike v low up) (agree .true-alike v low up)
+    literal-alike (minus v) low up = ap₂ _&&_ (agree .given-alike v low up) (ap not (agree .true-alike v low up))
 
     pub satisfied-alike : WellFormed (P .task) → satisfies M (formula P) ≡ satisfies M′ (formula P)
-    satisfied-alike fine = clauses-alike (formula P) (all-within fine)
+    satisfied-alike fine =
+        same-truth _ _ (satisfied-more M M′ (λ l low up t. sym (literal-alike l low up) ∙ t) fine)
+        (satisfied-more M′ M (λ l low up t. literal-alike l low up ∙ t) fine)
 
     pub schedule-alike : scheduleOf P M ≡ scheduleOf P M′
-    unfolding scheduleOf entryOf trueAction
-    schedule-alike =
-        forEach-ext (P .horizon) _ _ (λ s hs.
-        ap (λ f. cond (ltb f (A (P .task))) (suc f) 0 ∷ [])
-        (first-ext (A (P .task)) (λ a. literalTrue M (plus (actionNumber P s a))) (λ a. literalTrue M′ (plus (actionNumber P s a))) (λ a ha. literal-alike (plus (actionNumber P s a)) (action-in (plus _) s a refl hs ha))))
+    schedule-alike = schedule-same M M′ (λ v. literal-alike (plus v))

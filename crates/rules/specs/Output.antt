@@ -1,6 +1,6 @@
 -- A whole solver output: its bytes cut at LF and read line by line, how a reading starts, and how it ends (refusals 15 to 19).
 -- Assumes nothing.
-use Prim.Native.Nat.{ℕ, suc}
+use Prim.Native.Nat.{ℕ}
 use mathlib.Core.Bool.{not}
 use mathlib.Core.List.{List, [], _∷_, foldl}
 use lib.ListN.{replicate}
@@ -12,7 +12,7 @@ use Rattle.rules.specs.Text.{lf}
 use Rattle.rules.specs.Rows.{Rows, wordsFor, overRow}
 use Rattle.rules.specs.Truth.{clauseTrue, modelIn}
 use Rattle.rules.specs.Lines.{pieces, Progress, readLine}
-use Rattle.rules.specs.declared.Refusal.the-variants.{Unfinished, NotGiven, FalseClause, Unsatisfiable, Unknown}
+use Rattle.rules.specs.declared.Refusal.the-variants.{Unfinished, FalseClause, Unsatisfiable, Unknown}
 use Rattle.rules.specs.declared.Verdict.{Verdict}
 use Rattle.rules.specs.declared.Phase.{Phase}
 use Rattle.rules.specs.declared.Phase.the-variants.{NoStatus, ModelOpen, ModelClosed, SaidUnsatisfiable, SaidUnknown}
@@ -66,12 +66,9 @@ ending SaidUnknown = Verdict.Refused Unknown
 ending ModelOpen = Verdict.Refused Unfinished
 ending ModelClosed = Verdict.Accepted
 
--- 16, 17
+-- 17: a clause has no true literal among those named
 unfoldable pub modelRules : Problem → Rows → List Rule
-modelRules P rows =
-    noneAtFault (N P) (λ i. not (modelIn rows .given (suc i))) (λ i. NotGiven (suc i))
-    ∷ noneAtFault (C P) (λ c. not (clauseTrue (modelIn rows) (clause P c))) FalseClause
-    ∷ []
+modelRules P rows = noneAtFault (C P) (λ c. not (clauseTrue (modelIn rows) (clause P c))) FalseClause ∷ []
 
 unfoldable pub outcome : Problem → Phase → Rows → Verdict
 outcome P phase rows = inTurn (ending phase) (judge (modelRules P rows))

@@ -39,10 +39,10 @@ assignmentOf P schedule =
     forEach (P .horizon) (λ s. valueBits (P .task) (stateAt (P .task) schedule s) ++ actionBits (P .task) (entry schedule s))
     ++ valueBits (P .task) (stateAt (P .task) schedule (P .horizon))
 
--- both rows: all N variables given, exactly the model's true ones true, words behind untouched
+-- both rows with an assignment in them: all N variables given, exactly its true ones true, words behind untouched
+abbrev pub rowsHolding : Problem → List Bool → Rows → Rows
+rowsHolding P bits rows = record { given = overRow (packed (replicate (N P) true)) (rows .given); isTrue = overRow (packed bits) (rows .isTrue) }
+
+-- both rows with the schedule's assignment
 unfoldable pub rowsOf : Problem → List ℕ → Rows → Rows
-rowsOf P schedule rows =
-    record {
-      given = overRow (packed (replicate (N P) true)) (rows .given);
-      isTrue = overRow (packed (assignmentOf P schedule)) (rows .isTrue);
-    }
+rowsOf P schedule rows = rowsHolding P (assignmentOf P schedule) rows

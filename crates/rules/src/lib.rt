@@ -17,7 +17,6 @@ pub enum Refusal {
     OverN(usize),
     GivenBefore(usize),
     Unfinished,
-    NotGiven(usize),
     FalseClause(usize),
     Unsatisfiable,
     Unknown,
