@@ -72,7 +72,7 @@ pub digit-bit : (w j : ℕ) (b : Bool) → digit w j ≡ one b → bitOf w j ≡
 digit-bit w j true e = eq-eqb _ _ e
 digit-bit w j false e = ne-eqb (digit w j) 1 (λ f. omega arith)
 
-bit-digit : (w j : ℕ) (b : Bool) → bitOf w j ≡ b → digit w j ≡ one b
+pub bit-digit : (w j : ℕ) (b : Bool) → bitOf w j ≡ b → digit w j ≡ one b
 bit-digit w j true e = eqb-true (digit w j) 1 e
 bit-digit w j false e = let h : digit w j ≡ 1 → ⊥ = eqb-false (digit w j) 1 e in omega (arith, h)
 

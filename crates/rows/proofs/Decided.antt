@@ -15,12 +15,12 @@ use Rattle.rows.proofs.set_bit.Kinds as set-bit-kinds
 use Rattle.rows.proofs.set_bit.Reads as set-bit
 use Rattle.rows.proofs.clear.Kinds as clear-kinds
 use Rattle.rows.proofs.clear.Reads as clear
+use Rattle.rows.proofs.counts_true.Kinds as counts-true-kinds
+use Rattle.rows.proofs.counts_true.Reads as counts-true
 use Rattle.rows.proofs.count_set.Kinds as count-set-kinds
 use Rattle.rows.proofs.count_set.Reads as count-set
 use Rattle.rows.proofs.first_set.Kinds as first-set-kinds
 use Rattle.rows.proofs.first_set.Reads as first-set
-use Rattle.rows.proofs.first_unset.Kinds as first-unset-kinds
-use Rattle.rows.proofs.first_unset.Reads as first-unset
 
 pub words-for-decided : (κs : Lfts 0) (a : Dens κs words-for-kinds.ps) (r s : ℕ) (x y : AtExit (endedOf 0 words-for-kinds.ps words-for-kinds.r) κs)
     → words-for.Post κs a r x → words-for.Post κs a s y → r ≡ s
@@ -38,14 +38,14 @@ pub clear-decided : (κs : Lfts 1) (a : Dens κs clear-kinds.ps) (x y : AtExit (
     → clear.Post κs a tt x → clear.Post κs a tt y → now (x .0) ≡ now (y .0)
 clear-decided κs a x y p q = p ∙ sym q
 
-pub count-set-decided : (κs : Lfts 1) (a : Dens κs count-set-kinds.ps) (r s : ℕ) (x y : AtExit (endedOf 1 count-set-kinds.ps count-set-kinds.r) κs)
+pub count-set-decided : (κs : Lfts 2) (a : Dens κs count-set-kinds.ps) (r s : ℕ) (x y : AtExit (endedOf 2 count-set-kinds.ps count-set-kinds.r) κs)
     → count-set.Post κs a r x → count-set.Post κs a s y → r ≡ s
 count-set-decided κs a r s x y p q = p ∙ sym q
 
-pub first-set-decided : (κs : Lfts 1) (a : Dens κs first-set-kinds.ps) (r s : ℕ) (x y : AtExit (endedOf 1 first-set-kinds.ps first-set-kinds.r) κs)
+pub first-set-decided : (κs : Lfts 2) (a : Dens κs first-set-kinds.ps) (r s : ℕ) (x y : AtExit (endedOf 2 first-set-kinds.ps first-set-kinds.r) κs)
     → first-set.Post κs a r x → first-set.Post κs a s y → r ≡ s
 first-set-decided κs a r s x y p q = p ∙ sym q
 
-pub first-unset-decided : (κs : Lfts 1) (a : Dens κs first-unset-kinds.ps) (r s : ℕ) (x y : AtExit (endedOf 1 first-unset-kinds.ps first-unset-kinds.r) κs)
-    → first-unset.Post κs a r x → first-unset.Post κs a s y → r ≡ s
-first-unset-decided κs a r s x y p q = p ∙ sym q
+pub counts-true-decided : (κs : Lfts 2) (a : Dens κs counts-true-kinds.ps) (r s : Bool) (x y : AtExit (endedOf 2 counts-true-kinds.ps counts-true-kinds.r) κs)
+    → counts-true.Post κs a r x → counts-true.Post κs a s y → r ≡ s
+counts-true-decided κs a r s x y p q = p ∙ sym q

@@ -1,5 +1,5 @@
 -- What is proved of rows of bits.
 pub mod Bits
-pub mod StretchLaws
 pub mod Words
+pub mod StretchLaws
 pub mod Decided

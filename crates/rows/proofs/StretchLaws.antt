@@ -2,12 +2,12 @@
 -- Assumes nothing.
 use mathlib.Core.Path.{_≡_, refl, sym, ap, ap₂, _∙_}
 use mathlib.Core.Logic.{⊎-elim}
-use mathlib.Core.Bool.{true, false, cond}
+use mathlib.Core.Bool.{Bool, true, false, cond}
 use mathlib.Core.List.{List}
 use Prim.Native.Nat.{ℕ, zero, suc, _+_, _-_, _/_, _%_, _^_, _≤_, _<_, min}
 use native.Mathlib.Omega.{arith}
 use native.Mathlib.Numerals.{one-add}
-use native.Mathlib.Nat.{mod-one, mod-lt, add-suc, add-zero, zero-div}
+use native.Mathlib.Nat.{mod-one, mod-lt, add-suc, add-zero}
 use borrow.Author.Tests.{eqb-true, eqb-false}
 use mir.Syntax.{w64}
 use mir.Val.{Fits}
@@ -20,9 +20,11 @@ use Rattle.rules.specs.Counting.{sumTo, first}
 use Rattle.rules.specs.Rows.{wordBits, bitOf, bitOfVariable}
 use Rattle.rules.proofs.Bools.{either, below-or}
 use Rattle.rules.proofs.Counting.{sumTo-ext, first-is, first-none}
-use Rattle.rows.specs.Bits.{setFrom}
+use Rattle.rows.specs.Bits.{countsTrue, countedWord, setFrom}
+use Rattle.rows.specs.Lent.{lent}
 use Rattle.rows.specs.Stretch.{setBelow, LowestSet, countSet}
 use Rattle.rows.proofs.Bits.{digit, digit-zero, digit-suc, digit-bit}
+use Rattle.rows.proofs.Words.{counted-bit}
 
 -- ---- the ones of a masked word
 
@@ -114,75 +116,84 @@ zeros-are w =
 
 -- ---- a stretch, word by word
 
+-- the word of both rows that holds a place
+abbrev wordWith : Bool → (given isTrue : List ℕ) → ℕ → ℕ
+wordWith unnamed given isTrue place = countedWord unnamed (getD given (place / wordBits) 0) (getD isTrue (place / wordBits) 0)
+
 -- the bits from a place on are those of the variables from it on, as far as the word goes
-bits-are : (row : List ℕ) (w place from done i : ℕ) → w ≡ getD row (place / wordBits) 0 / 2 ^ (place % wordBits) → 0 < from → place ≡ from - 1 + done
-    → i < wordBits - place % wordBits → bitOf w i ≡ bitOfVariable row (from + (done + i))
-unfolding bitOfVariable
-bits-are row w place from done i e f p h =
+bits-are : (unnamed : Bool) (given isTrue : List ℕ) (w place from done i : ℕ) → w ≡ wordWith unnamed given isTrue place / 2 ^ (place % wordBits) → 0 < from
+    → place ≡ from - 1 + done → i < wordBits - place % wordBits → bitOf w i ≡ countsTrue unnamed (lent given isTrue) (from + (done + i))
+unfolding bitOfVariable countsTrue
+bits-are unnamed given isTrue w place from done i e f p h =
     let k : (from + (done + i) - 1) / wordBits ≡ place / wordBits = omega arith in
     let j : (from + (done + i) - 1) % wordBits ≡ place % wordBits + i = omega arith in
     ap (λ w. bitOf w i) e
-    ∙ ap (λ q. eqb (q % 2) 1) (shr-shr (getD row (place / wordBits) 0) (place % wordBits) i)
-    ∙ ap₂ (λ k j. bitOf (getD row k 0) j) (sym k) (sym j)
+    ∙ ap (λ q. eqb (q % 2) 1) (shr-shr (wordWith unnamed given isTrue place) (place % wordBits) i)
+    ∙ counted-bit unnamed (getD given (place / wordBits) 0) (getD isTrue (place / wordBits) 0) (place % wordBits + i) (omega arith)
+    ∙ ap₂ (λ k j. cond (bitOf (getD given k 0) j) (bitOf (getD isTrue k 0) j) unnamed) (sym k) (sym j)
 
 sumTo-parts : (n m : ℕ) (f : ℕ → ℕ) → sumTo (n + m) f ≡ sumTo n f + sumTo m (λ i. f (n + i))
 unfolding sumTo
 sumTo-parts n zero f = ap (λ k. sumTo k f) (add-zero n) ∙ omega arith
 sumTo-parts n (suc m) f = ap (λ k. sumTo k f) (add-suc n m) ∙ omega (arith, sumTo-parts n m f)
 
-pub bits-behind : (row : List ℕ) (place : ℕ) → length row ≤ place / wordBits → 0 ≡ getD row (place / wordBits) 0 / 2 ^ (place % wordBits)
-bits-behind row place h = rw (List·getD-eq-default row 0 h) (sym (zero-div (2 ^ (place % wordBits))))
+pub word-from : (unnamed : Bool) (given isTrue : List ℕ) (place g t w : ℕ) → g ≡ getD given (place / wordBits) 0 → t ≡ getD isTrue (place / wordBits) 0
+    → w ≡ countedWord unnamed g t → w / 2 ^ (place % wordBits) ≡ wordWith unnamed given isTrue place / 2 ^ (place % wordBits)
+word-from unnamed given isTrue place g t w hg ht e = ap (λ w. w / 2 ^ (place % wordBits)) (e ∙ ap₂ (countedWord unnamed) hg ht)
+
+pub word-behind : (row : List ℕ) (at : ℕ) → length row ≤ at → 0 ≡ getD row at 0
+word-behind row at h = sym (List·getD-eq-default row 0 h)
 
 -- ---- the loop that counts
 
-pub count-none : (row : List ℕ) (from : ℕ) → 0 ≡ countSet row from 0
+pub count-none : (unnamed : Bool) (given isTrue : List ℕ) (from : ℕ) → 0 ≡ countSet (countsTrue unnamed (lent given isTrue)) from 0
 unfolding countSet sumTo
-count-none row from = refl
+count-none unnamed given isTrue from = refl
 
-pub count-on : (row : List ℕ) (from many done w size n r : ℕ) → 0 < from
+pub count-on : (unnamed : Bool) (given isTrue : List ℕ) (from many done w size n r : ℕ) → 0 < from
     → size ≡ min (wordBits - (from - 1 + done) % wordBits) (many - done)
-    → w ≡ getD row ((from - 1 + done) / wordBits) 0 / 2 ^ ((from - 1 + done) % wordBits)
-    → r ≡ setBelow w size → n ≡ countSet row from done → n + r ≡ countSet row from (done + size)
+    → w ≡ wordWith unnamed given isTrue (from - 1 + done) / 2 ^ ((from - 1 + done) % wordBits)
+    → r ≡ setBelow w size → n ≡ countSet (countsTrue unnamed (lent given isTrue)) from done → n + r ≡ countSet (countsTrue unnamed (lent given isTrue)) from (done + size)
 unfolding countSet setBelow
-count-on row from many done w size n r f s e k c =
-    let same : sumTo size (λ i. cond (bitOf w i) 1 0) ≡ sumTo size (λ i. cond (bitOfVariable row (from + (done + i))) 1 0) =
-    sumTo-ext size _ _ (λ i h. ap (λ b. cond b 1 0) (bits-are row w (from - 1 + done) from done i e f refl (omega (arith, s)))) in
-    omega (arith, k, c, same, sumTo-parts done size (λ i. cond (bitOfVariable row (from + i)) 1 0))
+count-on unnamed given isTrue from many done w size n r f s e k c =
+    let same : sumTo size (λ i. cond (bitOf w i) 1 0) ≡ sumTo size (λ i. cond (countsTrue unnamed (lent given isTrue) (from + (done + i))) 1 0) =
+    sumTo-ext size _ _ (λ i h. ap (λ b. cond b 1 0) (bits-are unnamed given isTrue w (from - 1 + done) from done i e f refl (omega (arith, s)))) in
+    omega (arith, k, c, same, sumTo-parts done size (λ i. cond (countsTrue unnamed (lent given isTrue) (from + i)) 1 0))
 
-pub count-all : (row : List ℕ) (from many done n : ℕ) → done ≤ many → many ≤ done → n ≡ countSet row from done → n ≡ countSet row from many
-count-all row from many done n h k c = let e : done ≡ many = omega arith in rw e at c
+pub count-all : (unnamed : Bool) (given isTrue : List ℕ) (from many done n : ℕ) → done ≤ many → many ≤ done → n ≡ countSet (countsTrue unnamed (lent given isTrue)) from done → n ≡ countSet (countsTrue unnamed (lent given isTrue)) from many
+count-all unnamed given isTrue from many done n h k c = let e : done ≡ many = omega arith in rw e at c
 
 -- ---- the loop that looks for the first
 
-abbrev pub NoneSet : List ℕ → ℕ → ℕ → Type 0
-NoneSet row from done = (i : ℕ) → i < done → bitOfVariable row (from + i) ≡ false
+abbrev pub NoneSet : Bool → (given isTrue : List ℕ) → ℕ → ℕ → Type 0
+NoneSet unnamed given isTrue from done = (i : ℕ) → i < done → countsTrue unnamed (lent given isTrue) (from + i) ≡ false
 
-pub none-none : (row : List ℕ) (from : ℕ) → NoneSet row from 0
-none-none row from i h = absurd (omega arith)
+pub none-none : (unnamed : Bool) (given isTrue : List ℕ) (from : ℕ) → NoneSet unnamed given isTrue from 0
+none-none unnamed given isTrue from i h = absurd (omega arith)
 
-module _ (row : List ℕ) (from many done w size low : ℕ) (f : 0 < from) (s : size ≡ min (wordBits - (from - 1 + done) % wordBits) (many - done))
-    (e : w ≡ getD row ((from - 1 + done) / wordBits) 0 / 2 ^ ((from - 1 + done) % wordBits)) (l : LowestSet w low) (none : NoneSet row from done) where
+module _ (unnamed : Bool) (given isTrue : List ℕ) (from many done w size low : ℕ) (f : 0 < from) (s : size ≡ min (wordBits - (from - 1 + done) % wordBits) (many - done))
+    (e : w ≡ wordWith unnamed given isTrue (from - 1 + done) / 2 ^ ((from - 1 + done) % wordBits)) (l : LowestSet w low) (none : NoneSet unnamed given isTrue from done) where
   -- none of the variables whose bits stand below the lowest one
-  none-below : (n : ℕ) → n ≤ low → n ≤ size → NoneSet row from (done + n)
+  none-below : (n : ℕ) → n ≤ low → n ≤ size → NoneSet unnamed given isTrue from (done + n)
   none-below n h k i b =
       ⊎-elim (λ c. none i c)
       (λ c.
       let at : i ≡ done + (i - done) = omega arith in
-      ap (λ i. bitOfVariable row (from + i)) at
-      ∙ sym (bits-are row w (from - 1 + done) from done (i - done) e f refl (omega (arith, s)))
+      ap (λ i. countsTrue unnamed (lent given isTrue) (from + i)) at
+      ∙ sym (bits-are unnamed given isTrue w (from - 1 + done) from done (i - done) e f refl (omega (arith, s)))
       ∙ l .below (i - done) (omega arith))
       (below-or i done)
 
-  pub none-on : size ≤ low → NoneSet row from (done + size)
+  pub none-on : size ≤ low → NoneSet unnamed given isTrue from (done + size)
   none-on h = none-below size h (omega arith)
 
-  pub first-here : done < many → low < size → done + low ≡ first many (setFrom row from)
+  pub first-here : done < many → low < size → done + low ≡ first many (setFrom (countsTrue unnamed (lent given isTrue)) from)
   unfolding setFrom
   first-here d h =
-      sym (first-is many (λ i. bitOfVariable row (from + i)) (done + low) (omega (arith, s))
-      (sym (bits-are row w (from - 1 + done) from done low e f refl (omega (arith, s))) ∙ l .here (omega (arith, s)))
+      sym (first-is many (λ i. countsTrue unnamed (lent given isTrue) (from + i)) (done + low) (omega (arith, s))
+      (sym (bits-are unnamed given isTrue w (from - 1 + done) from done low e f refl (omega (arith, s))) ∙ l .here (omega (arith, s)))
       (none-below low (omega arith) (omega arith)))
 
-pub first-nowhere : (row : List ℕ) (from many done : ℕ) → many ≤ done → NoneSet row from done → many ≡ first many (setFrom row from)
+pub first-nowhere : (unnamed : Bool) (given isTrue : List ℕ) (from many done : ℕ) → many ≤ done → NoneSet unnamed given isTrue from done → many ≡ first many (setFrom (countsTrue unnamed (lent given isTrue)) from)
 unfolding setFrom
-first-nowhere row from many done h none = sym (first-none many (λ i. bitOfVariable row (from + i)) (λ i b. none i (omega arith)))
+first-nowhere unnamed given isTrue from many done h none = sym (first-none many (λ i. countsTrue unnamed (lent given isTrue) (from + i)) (λ i b. none i (omega arith)))

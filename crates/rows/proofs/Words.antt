@@ -1,20 +1,17 @@
--- Laws of whole words: a word with all bits set, and the first variable that is not.
+-- Laws of whole words: digits of words put together by `&`, `|` and `^`, and the word of both rows.
 -- Assumes nothing.
-use mathlib.Core.Path.{_≡_, refl, sym, ap, _∙_}
-use mathlib.Core.Logic.{⊎-elim}
-use mathlib.Core.Bool.{Bool, true, false, not}
+use mathlib.Core.Path.{_≡_, refl, sym, ap, ap₂, _∙_}
+use mathlib.Core.Bool.{Bool, true, false, cond}
 use mathlib.Core.List.{List}
-use Prim.Native.Nat.{ℕ, suc, _+_, _-_, _/_, _%_, _^_, _≤_, _<_}
+use Prim.Native.Nat.{ℕ, suc, _+_, _-_, _*_, _/_, _%_, _^_, _<_, min, max}
 use native.Mathlib.Omega.{arith}
 use native.Mathlib.Nat.{pow-suc}
+use lib.Bits.{bitAnd, bitOr, bitXor, differ, and-step, or-step, xor-step, and-shr, or-shr, xor-shr}
 use lib.Pow.{high, ones-lt, ones-split, suc-ones}
-use lib.ListN.{length, getD}
-use Rattle.rules.specs.Counting.{first}
 use Rattle.rules.specs.Rows.{bitOf, bitOfVariable, wordBits}
-use Rattle.rules.proofs.Bools.{below-or, not-true, not-false}
-use Rattle.rules.proofs.Counting.{first-before, first-is, first-none}
-use Rattle.rows.specs.Bits.{notSet}
-use Rattle.rows.proofs.Bits.{digit, digit-bit, bit-behind}
+use Rattle.rows.specs.Bits.{countsTrue, countedWord}
+use Rattle.rows.specs.Lent.{lent}
+use Rattle.rows.proofs.Bits.{digit, one, digit-bit, bit-digit}
 
 -- ---- a word with all bits set
 
@@ -30,46 +27,82 @@ full-digit k j h =
     ∙ ap (λ q. q % 2) (high (2 ^ suc t - 1) j (ones-lt j))
     ∙ power-even t
 
--- ---- variables from 1 on that are not set
+-- ---- digits of two words put together
 
-module _ (row : List ℕ) where
-  abbrev isUnset : ℕ → Bool
-  isUnset = notSet row
+lowest : (w h d : ℕ) → w ≡ h * 2 + d → d < 2 → w % 2 ≡ d
+lowest w h d e l = omega arith
 
-  module _ (i : ℕ) (none : first i isUnset ≡ i) where
-    pub unset-behind : (m : ℕ) → i < m → length row ≤ i / wordBits → i ≡ first m isUnset
-    unfolding notSet
-    unset-behind m l h =
-        sym (first-is m isUnset i l (ap not (sym (bit-behind row (suc i) (omega arith)))) (λ j b. first-before i isUnset j (omega arith)))
+differ-digit : (a b : Bool) → differ (one a) (one b) < 2
+differ-digit true true = omega arith
+differ-digit true false = omega arith
+differ-digit false true = omega arith
+differ-digit false false = omega arith
 
-    pub unset-found : (m : ℕ) (b : Bool) → i < m → b ≡ bitOfVariable row (i + 1) → not b ≡ true → i ≡ first m isUnset
-    unfolding notSet
-    unset-found m b l e f =
-        sym (first-is m isUnset i l (ap not (ap (bitOfVariable row) (omega arith) ∙ sym e ∙ not-true b f)) (λ j b. first-before i isUnset j (omega arith)))
+module _ (v w j : ℕ) (a b : Bool) (d : digit v j ≡ one a) (e : digit w j ≡ one b) where
+  digit-and : digit (bitAnd v w) j ≡ min (one a) (one b)
+  digit-and =
+      ap (λ q. q % 2) (and-shr v w j)
+      ∙ lowest _ _ (min (one a) (one b)) (and-step (v / 2 ^ j) (w / 2 ^ j) ∙ ap₂ (λ x y. bitAnd (v / 2 ^ j / 2) (w / 2 ^ j / 2) * 2 + min x y) d e) (omega arith)
 
-    pub unset-more : (b : Bool) → b ≡ bitOfVariable row (i + 1) → not b ≡ false → first (i + 1) isUnset ≡ i + 1
-    unfolding notSet
-    unset-more b e t =
-        first-none (i + 1) isUnset (λ j l.
-        ⊎-elim (λ r. first-before i isUnset j (omega arith))
-        (λ r. let same : suc j ≡ i + 1 = omega arith in ap not (ap (bitOfVariable row) same ∙ sym e ∙ not-false b t))
-        (below-or j i))
+  digit-or : digit (bitOr v w) j ≡ max (one a) (one b)
+  digit-or =
+      ap (λ q. q % 2) (or-shr v w j)
+      ∙ lowest _ _ (max (one a) (one b)) (or-step (v / 2 ^ j) (w / 2 ^ j) ∙ ap₂ (λ x y. bitOr (v / 2 ^ j / 2) (w / 2 ^ j / 2) * 2 + max x y) d e) (omega arith)
 
-    full-word : (j : ℕ) → i % wordBits ≡ 0 → getD row (i / wordBits) 0 ≡ 2 ^ wordBits - 1 → i ≤ j → j < i + wordBits → isUnset j ≡ false
-    unfolding bitOfVariable notSet
-    full-word j z e l u =
-        let k : (suc j - 1) / wordBits ≡ i / wordBits = omega arith in
-        let r : (suc j - 1) % wordBits < wordBits = omega arith in
-        let set : bitOfVariable row (suc j) ≡ true =
-        ap (λ at. bitOf (getD row at 0) ((suc j - 1) % wordBits)) k
-        ∙ ap (λ w. bitOf w ((suc j - 1) % wordBits)) e
-        ∙ digit-bit (2 ^ wordBits - 1) ((suc j - 1) % wordBits) true (full-digit wordBits ((suc j - 1) % wordBits) r) in
-        ap not set
+  digit-xor : digit (bitXor v w) j ≡ differ (one a) (one b)
+  digit-xor =
+      ap (λ q. q % 2) (xor-shr v w j)
+      ∙ lowest _ _ (differ (one a) (one b)) (xor-step (v / 2 ^ j) (w / 2 ^ j) ∙ ap₂ (λ x y. bitXor (v / 2 ^ j / 2) (w / 2 ^ j / 2) * 2 + differ x y) d e) (differ-digit a b)
 
-    pub unset-full : i % wordBits ≡ 0 → getD row (i / wordBits) 0 ≡ 2 ^ wordBits - 1 → first (i + wordBits) isUnset ≡ i + wordBits
-    unset-full z e =
-        first-none (i + wordBits) isUnset (λ j l.
-        ⊎-elim (λ r. first-before i isUnset j (omega arith)) (λ r. full-word j z e r l) (below-or j i))
+-- ---- the word of both rows
 
-    pub unset-none-left : (m : ℕ) → m ≤ i → m ≡ first m isUnset
-    unset-none-left m l = sym (first-none m isUnset (λ j b. first-before i isUnset j (omega arith)))
+counted-digit : (unnamed g t : Bool) (given isTrue j : ℕ) → digit given j ≡ one g → digit isTrue j ≡ one t → j < wordBits
+    → digit (countedWord unnamed given isTrue) j ≡ one (cond g t unnamed)
+unfolding countedWord
+counted-digit false true true given isTrue j d e l = digit-and given isTrue j true true d e
+counted-digit false true false given isTrue j d e l = digit-and given isTrue j true false d e
+counted-digit false false t given isTrue j d e l = digit-and given isTrue j false t d e ∙ none t
+  where
+    none : (t : Bool) → min 0 (one t) ≡ 0
+    none t = omega arith
+counted-digit true g t given isTrue j d e l =
+    digit-or isTrue (bitXor given (2 ^ wordBits - 1)) j t (other g) e (digit-xor given (2 ^ wordBits - 1) j g true d (full-digit wordBits j l) ∙ differs g) ∙ together g t
+  where
+    other : Bool → Bool
+    other true = false
+    other false = true
+
+    differs : (g : Bool) → differ (one g) 1 ≡ one (other g)
+    differs true = refl
+    differs false = refl
+
+    together : (g t : Bool) → max (one t) (one (other g)) ≡ one (cond g t true)
+    together true true = refl
+    together true false = refl
+    together false true = refl
+    together false false = refl
+
+-- a bit of that word is the truth of what is given, and `unnamed` of what is not
+pub counted-bit : (unnamed : Bool) (given isTrue j : ℕ) → j < wordBits → bitOf (countedWord unnamed given isTrue) j ≡ cond (bitOf given j) (bitOf isTrue j) unnamed
+counted-bit unnamed given isTrue j l =
+    digit-bit (countedWord unnamed given isTrue) j _
+    (counted-digit unnamed (bitOf given j) (bitOf isTrue j) given isTrue j (bit-digit given j _ refl) (bit-digit isTrue j _ refl) l)
+
+pub counted-as-true : (unnamed : Bool) (given isTrue : ℕ) → unnamed ≡ true → bitOr isTrue (bitXor given (2 ^ wordBits - 1)) ≡ countedWord unnamed given isTrue
+unfolding countedWord
+counted-as-true unnamed given isTrue e = rw e refl
+
+pub counted-as-false : (unnamed : Bool) (given isTrue : ℕ) → unnamed ≡ false → bitAnd given isTrue ≡ countedWord unnamed given isTrue
+unfolding countedWord
+counted-as-false unnamed given isTrue e = rw e refl
+
+-- ---- one variable of both rows
+
+module _ (given isTrue : List ℕ) (v : ℕ) (unnamed b : Bool) (e : b ≡ bitOfVariable given v) where
+  pub counts-named : (t : Bool) → b ≡ true → t ≡ bitOfVariable isTrue v → t ≡ countsTrue unnamed (lent given isTrue) v
+  unfolding countsTrue
+  counts-named t h f = f ∙ ap (λ g. cond g (bitOfVariable isTrue v) unnamed) (sym h ∙ e)
+
+  pub counts-unnamed : b ≡ false → unnamed ≡ countsTrue unnamed (lent given isTrue) v
+  unfolding countsTrue
+  counts-unnamed h = ap (λ g. cond g (bitOfVariable isTrue v) unnamed) (sym h ∙ e)

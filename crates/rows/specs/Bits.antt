@@ -1,14 +1,19 @@
--- The bits of variables that stand one behind the other.
+-- The bits of variables in two rows, and of variables that stand one behind the other.
 -- Assumes nothing.
-use Prim.Native.Nat.{ℕ, suc, _+_}
-use mathlib.Core.Bool.{Bool, not}
-use mathlib.Core.List.{List}
-use Rattle.rules.specs.Rows.{bitOfVariable}
+use Prim.Native.Nat.{ℕ, _+_, _-_, _^_}
+use mathlib.Core.Bool.{Bool, true, false, cond}
+use lib.Bits.{bitAnd, bitOr, bitXor}
+use Rattle.rules.specs.Rows.{Rows, wordBits, bitOfVariable}
 
--- variable number i from one on is set
-unfoldable pub setFrom : List ℕ → ℕ → ℕ → Bool
-setFrom row from i = bitOfVariable row (from + i)
+-- whether a variable counts as true, where one that is not given counts as `unnamed`
+unfoldable pub countsTrue : (unnamed : Bool) → Rows → ℕ → Bool
+countsTrue unnamed rows v = cond (bitOfVariable (rows .given) v) (bitOfVariable (rows .isTrue) v) unnamed
 
--- variable number i from variable 1 on is not set
-unfoldable pub notSet : List ℕ → ℕ → Bool
-notSet row i = not (bitOfVariable row (suc i))
+-- the same of all variables of a word
+unfoldable pub countedWord : (unnamed : Bool) → (given isTrue : ℕ) → ℕ
+countedWord false given isTrue = bitAnd given isTrue
+countedWord true given isTrue = bitOr isTrue (bitXor given (2 ^ wordBits - 1))
+
+-- number i of the variables from one on
+unfoldable pub setFrom : (ℕ → Bool) → ℕ → ℕ → Bool
+setFrom isSet from i = isSet (from + i)

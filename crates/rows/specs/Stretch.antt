@@ -1,11 +1,10 @@
--- A stretch of variables in a row of bits: `many` of them, the first one `from`.
+-- A stretch of variables: `many` of them, the first one `from`.
 -- Assumes nothing.
 use Prim.Native.Nat.{ℕ, _+_, _≤_, _<_}
 use mathlib.Core.Path.{_≡_}
-use mathlib.Core.Bool.{true, false, cond}
-use mathlib.Core.List.{List}
+use mathlib.Core.Bool.{Bool, true, false, cond}
 use Rattle.rules.specs.Counting.{sumTo}
-use Rattle.rules.specs.Rows.{wordBits, bitOf, bitOfVariable}
+use Rattle.rules.specs.Rows.{wordBits, bitOf}
 
 -- ---- in one word
 
@@ -22,5 +21,5 @@ pub record LowestSet (w r : ℕ) : Type 0 where
 -- ---- in a row
 
 -- how many are set
-unfoldable pub countSet : List ℕ → ℕ → ℕ → ℕ
-countSet row from many = sumTo many (λ i. cond (bitOfVariable row (from + i)) 1 0)
+unfoldable pub countSet : (ℕ → Bool) → ℕ → ℕ → ℕ
+countSet isSet from many = sumTo many (λ i. cond (isSet (from + i)) 1 0)

@@ -4,8 +4,9 @@ ghost use Prim.Native.Nat.{_+_, _-_, _/_, _%_, _^_, _<_, _≤_, min};
 ghost use lib.ListN.{length, getD, replicate};
 ghost use Rattle.rules.specs.Rows.{wordBits, wordsFor, withBit, bitOfVariable, withVariable, overRow};
 ghost use Rattle.rules.specs.Counting.{first};
-ghost use Rattle.rows.specs.Bits.{setFrom, notSet};
+ghost use Rattle.rows.specs.Bits.{countsTrue, countedWord, setFrom};
 ghost use Rattle.rows.specs.Bound.{mostVariables};
+ghost use Rattle.rows.specs.Lent.{lent};
 ghost use Rattle.rows.specs.Stretch.{setBelow, LowestSet, countSet};
 
 const WORD_BITS: usize = 64;
@@ -66,15 +67,33 @@ pub fn clear(row: &mut [u64], words: usize)
     }
 }
 
-// The bits of a row from a place on, as far as its word goes; behind the row they are 0.
-fn bits_from(row: &[u64], place: usize) -> u64
-    ensures { λ r. ⌜ r ≡ getD (now (row .entry)) (place / wordBits) 0 / 2 ^ (place % wordBits) ⌝ }
+// The word of a row; behind the row it is 0.
+fn word_at(row: &[u64], at: usize) -> u64
+    ensures { λ r. ⌜ r ≡ getD (now (row .entry)) at 0 ⌝ }
 {
-    let at = place / WORD_BITS;
     if row.len() <= at {
         return 0;
     }
-    row[at] >> (place % WORD_BITS)
+    row[at]
+}
+
+// A word of both rows in one: the truth of what is given, and what is not given counts as `unnamed`.
+fn counted_word(given: u64, truth: u64, unnamed: bool) -> u64
+    ensures { λ r. ⌜ r ≡ countedWord unnamed given truth ⌝ }
+{
+    if unnamed {
+        return truth | (given ^ u64::MAX);
+    }
+    given & truth
+}
+
+// The bits of both rows from a place on, as far as its word goes.
+fn bits_from(given: &[u64], truth: &[u64], unnamed: bool, place: usize) -> u64
+    ensures { λ r. ⌜ r ≡ countedWord unnamed (getD (now (given .entry)) (place / wordBits) 0) (getD (now (truth .entry)) (place / wordBits) 0) / 2 ^ (place % wordBits) ⌝ }
+{
+    let at = place / WORD_BITS;
+    let word = counted_word(word_at(given, at), word_at(truth, at), unnamed);
+    word >> (place % WORD_BITS)
 }
 
 // How many of the `left` bits from a place on stand in its word.
@@ -103,61 +122,59 @@ fn lowest_set(bits: u64) -> usize
     u64::trailing_zeros(bits) as usize
 }
 
-// How many of the `many` variables from `from` on are set.
-pub fn count_set(row: &[u64], from: usize, many: usize) -> usize
+// Whether a variable counts as true, where one that is not given counts as `unnamed`.
+pub fn counts_true(given: &[u64], truth: &[u64], unnamed: bool, variable: usize) -> bool
+    requires { ⌜ 0 < variable ⌝ }
+    ensures { λ r. ⌜ r ≡ countsTrue unnamed (lent (now (given .entry)) (now (truth .entry))) variable ⌝ }
+{
+    if is_set(given, variable) {
+        return is_set(truth, variable);
+    }
+    unnamed
+}
+
+// How many of the `many` variables from `from` on count as true.
+pub fn count_set(
+    given: &[u64],
+    truth: &[u64],
+    unnamed: bool,
+    from: usize,
+    many: usize,
+) -> usize
     requires { ⌜ (0 < from) × (from + many < 2 ^ 64) ⌝ }
-    ensures { λ r. ⌜ r ≡ countSet (now (row .entry)) from many ⌝ }
+    ensures { λ r. ⌜ r ≡ countSet (countsTrue unnamed (lent (now (given .entry)) (now (truth .entry)))) from many ⌝ }
 {
     let mut count = 0;
     let mut done = 0;
     while done < many {
         let place = from - 1 + done;
         let size = in_word(place, many - done);
-        count += ones_below(bits_from(row, place), size);
+        count += ones_below(bits_from(given, truth, unnamed, place), size);
         done += size;
     }
     count
 }
 
-// Which of the `many` variables from `from` on is the first that is set, counted from 0; `many` where none is.
-pub fn first_set(row: &[u64], from: usize, many: usize) -> usize
+// Which of the `many` variables from `from` on is the first that counts as true, counted from 0; `many` where none does.
+pub fn first_set(
+    given: &[u64],
+    truth: &[u64],
+    unnamed: bool,
+    from: usize,
+    many: usize,
+) -> usize
     requires { ⌜ (0 < from) × (from + many < mostVariables) ⌝ }
-    ensures { λ r. ⌜ r ≡ first many (setFrom (now (row .entry)) from) ⌝ }
+    ensures { λ r. ⌜ r ≡ first many (setFrom (countsTrue unnamed (lent (now (given .entry)) (now (truth .entry)))) from) ⌝ }
 {
     let mut done = 0;
     while done < many {
         let place = from - 1 + done;
         let size = in_word(place, many - done);
-        let lowest = lowest_set(bits_from(row, place));
+        let lowest = lowest_set(bits_from(given, truth, unnamed, place));
         if lowest < size {
             return done + lowest;
         }
         done += size;
     }
     many
-}
-
-// The first of the variables 1 to m whose bit is not set; m where all are. Words with all bits set are passed in one step.
-pub fn first_unset(row: &[u64], m: usize) -> usize
-    requires { ⌜ m < mostVariables ⌝ }
-    ensures { λ r. ⌜ r ≡ first m (notSet (now (row .entry))) ⌝ }
-{
-    let mut i = 0;
-    while i < m {
-        let at = i / WORD_BITS;
-        if row.len() <= at {
-            return i;
-        }
-        if i % WORD_BITS == 0 {
-            if row[at] == u64::MAX {
-                i += WORD_BITS;
-                continue;
-            }
-        }
-        if !is_set(row, i + 1) {
-            return i;
-        }
-        i += 1;
-    }
-    m
 }

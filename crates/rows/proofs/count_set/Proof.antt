@@ -3,16 +3,19 @@
 use mathlib.Core.Path.{_≡_}
 use Prim.Native.Nat.{_-_, _≤_}
 use borrow.Author.Needs.{needs}
+use Rattle.rows.specs.Bits.{countsTrue}
+use Rattle.rows.specs.Lent.{lent}
 use Rattle.rows.specs.Stretch.{countSet}
 use Rattle.rows.proofs.StretchLaws.{count-none, count-on, count-all}
 use Rattle.rows.proofs.count_set.Statement.{statement}
 use Rattle.rows.proofs.count_set.Tie as tie
 
 abbrev Inv-loop : tie.InvT-loop
-Inv-loop row from many count₀ done₀ count done = (done ≤ many) × (count ≤ done) × (count ≡ countSet row from done)
+Inv-loop given truth unnamed from many count₀ done₀ count done =
+    (done ≤ many) × (count ≤ done) × (count ≡ countSet (countsTrue unnamed (lent given truth)) from done)
 
 abbrev μ-loop : tie.MeasureT-loop
-μ-loop row from many count₀ done₀ count done = many - done
+μ-loop given truth unnamed from many count₀ done₀ count done = many - done
 
 pub count-set-spec : {M : Type 1} → statement M
 count-set-spec =

@@ -7,10 +7,10 @@ use Rattle.rows.proofs.first_set.Statement.{statement}
 use Rattle.rows.proofs.first_set.Tie as tie
 
 abbrev Inv-loop : tie.InvT-loop
-Inv-loop row from many done₀ done = (done ≤ many) × NoneSet row from done
+Inv-loop given truth unnamed from many done₀ done = (done ≤ many) × NoneSet unnamed given truth from done
 
 abbrev μ-loop : tie.MeasureT-loop
-μ-loop row from many done₀ done = many - done
+μ-loop given truth unnamed from many done₀ done = many - done
 
 pub first-set-spec : {M : Type 1} → statement M
 first-set-spec =
