@@ -1,4 +1,4 @@
--- What makes the clauses of each family false, where every variable is given.
+-- What leaves the clauses of each family without a true literal among those named.
 -- Assumes nothing.
 use mathlib.Core.Path.{_≡_, refl, ap, ap₂, _∙_}
 use mathlib.Core.Logic.{⊎-elim}
@@ -14,15 +14,16 @@ use Rattle.rules.specs.Problem.{Problem}
 use Rattle.rules.specs.Numbering.{valueNumber, actionNumber}
 use Rattle.rules.specs.Families.{plus, minus, Clause, supporters, pairNumber, clause}
 use Rattle.rules.specs.Counts.{pairsBelow}
-use Rattle.rules.specs.Rows.{bitOfVariable}
-use Rattle.rules.specs.Truth.{literalTrue, clauseTrue}
+use Rattle.rules.specs.Rows.{Rows, bitOfVariable}
+use Rattle.rules.specs.Truth.{literalTrue, clauseTrue, modelIn}
 use Rattle.rules.specs.File.{taskOf}
 use Rattle.rules.specs.Calls.{problemOf}
 use Rattle.rules.proofs.Bools.{either, clash}
 use Rattle.rules.proofs.Counting.{sumTo-const, any-forEach, one-of}
 use Rattle.rules.proofs.Pairs.{PairAt}
 use Rattle.rules.proofs.ByNumber.{clausesBefore, clause1, clause2, clause3, clause4, clause5, clause6, clause7, clause8}
-use Rattle.checker.specs.Order.{holdsAt, actsAt, complete, isFalse, stepsOf, itemsOf, clausesOf, stepClauses, firstClause}
+use Rattle.rows.specs.Bits.{countsTrue}
+use Rattle.checker.specs.Order.{holdsAt, pairAt, actsAt, isFalse, stepsOf, itemsOf, clausesOf, stepClauses, firstClause}
 
 first-not : (a b : Bool) → not (not a || (b || false)) ≡ (a && not b)
 first-not true true = refl
@@ -41,85 +42,99 @@ first-not-and false b c = refl
 
 -- ---- clauses by their literals' bits
 
-module _ (row : List ℕ) where
-  abbrev bit : ℕ → Bool
-  bit = bitOfVariable row
+module _ (rows : Rows) where
+  -- the variables that are named true, and those that are not named false
+  abbrev isNamed : ℕ → Bool
+  isNamed = countsTrue false rows
 
-  one-plus : (v : ℕ) → not (clauseTrue (complete row) (plus v ∷ [])) ≡ not (bit v)
-  unfolding clauseTrue any literalTrue
-  one-plus v = ⊎-elim (λ t. rw t refl) (λ t. rw t refl) (either (bit v))
+  abbrev isOpen : ℕ → Bool
+  isOpen = countsTrue true rows
 
-  minus-plus : (u v : ℕ) → not (clauseTrue (complete row) (minus u ∷ plus v ∷ [])) ≡ (bit u && not (bit v))
-  unfolding clauseTrue any literalTrue
-  minus-plus u v = first-not (bit u) (bit v)
+  pub literal-plus : (v : ℕ) → literalTrue (modelIn rows) (plus v) ≡ isNamed v
+  unfolding literalTrue countsTrue
+  literal-plus v = ⊎-elim (λ t. rw t refl) (λ t. rw t refl) (either (bitOfVariable (rows .given) v))
 
-  minus-minus : (u v : ℕ) → not (clauseTrue (complete row) (minus u ∷ minus v ∷ [])) ≡ (bit u && bit v)
-  unfolding clauseTrue any literalTrue
-  minus-minus u v = both-not (bit u) (bit v)
+  literal-minus : (v : ℕ) → literalTrue (modelIn rows) (minus v) ≡ not (isOpen v)
+  unfolding literalTrue countsTrue
+  literal-minus v = ⊎-elim (λ t. rw t refl) (λ t. rw t refl) (either (bitOfVariable (rows .given) v))
 
-  minus-plus-and : (u v : ℕ) (c : Clause) → not (clauseTrue (complete row) (minus u ∷ plus v ∷ c))
-      ≡ (bit u && (not (bit v) && not (any (literalTrue (complete row)) c)))
-  unfolding clauseTrue any literalTrue
-  minus-plus-and u v c = first-not-and (bit u) (bit v) (any (literalTrue (complete row)) c)
+  one-plus : (v : ℕ) → not (clauseTrue (modelIn rows) (plus v ∷ [])) ≡ not (isNamed v)
+  unfolding clauseTrue any
+  one-plus v = ap (λ b. not (b || false)) (literal-plus v) ∙ ⊎-elim (λ t. rw t refl) (λ t. rw t refl) (either (isNamed v))
+
+  minus-plus : (u v : ℕ) → not (clauseTrue (modelIn rows) (minus u ∷ plus v ∷ [])) ≡ (isOpen u && not (isNamed v))
+  unfolding clauseTrue any
+  minus-plus u v = ap₂ (λ a b. not (a || (b || false))) (literal-minus u) (literal-plus v) ∙ first-not (isOpen u) (isNamed v)
+
+  minus-minus : (u v : ℕ) → not (clauseTrue (modelIn rows) (minus u ∷ minus v ∷ [])) ≡ (isOpen u && isOpen v)
+  unfolding clauseTrue any
+  minus-minus u v = ap₂ (λ a b. not (a || (b || false))) (literal-minus u) (literal-minus v) ∙ both-not (isOpen u) (isOpen v)
+
+  minus-plus-and : (u v : ℕ) (c : Clause) → not (clauseTrue (modelIn rows) (minus u ∷ plus v ∷ c))
+      ≡ (isOpen u && (not (isNamed v) && not (any (literalTrue (modelIn rows)) c)))
+  unfolding clauseTrue any
+  minus-plus-and u v c =
+      ap₂ (λ a b. not (a || (b || any (literalTrue (modelIn rows)) c))) (literal-minus u) (literal-plus v)
+      ∙ first-not-and (isOpen u) (isNamed v) (any (literalTrue (modelIn rows)) c)
 
   -- a clause of positive literals is true if one of them is
-  some-plus : (m : ℕ) (g : ℕ → ℕ) (v : ℕ) → v < m → bit (g v) ≡ true → not (clauseTrue (complete row) (table m (λ v. plus (g v)))) ≡ false
-  unfolding clauseTrue any literalTrue
+  some-plus : (m : ℕ) (g : ℕ → ℕ) (v : ℕ) → v < m → isNamed (g v) ≡ true → not (clauseTrue (modelIn rows) (table m (λ v. plus (g v)))) ≡ false
+  unfolding clauseTrue any
   some-plus m g v h t =
-      ap not (any-forEach (literalTrue (complete row)) m (λ v. plus (g v) ∷ []) v h (rw t refl))
+      ap not (any-forEach (literalTrue (modelIn rows)) m (λ v. plus (g v) ∷ []) v h (ap (λ b. b || false) (literal-plus (g v) ∙ t)))
 
-  no-plus : (m : ℕ) (g : ℕ → ℕ) → ((v : ℕ) → v < m → bit (g v) ≡ false) → not (clauseTrue (complete row) (table m (λ v. plus (g v)))) ≡ true
-  unfolding clauseTrue any literalTrue
+  no-plus : (m : ℕ) (g : ℕ → ℕ) → ((v : ℕ) → v < m → isNamed (g v) ≡ false) → not (clauseTrue (modelIn rows) (table m (λ v. plus (g v)))) ≡ true
+  unfolding clauseTrue any
   no-plus m g h =
       ⊎-elim
       (λ t.
-      let w = one-of (literalTrue (complete row)) m (λ v. plus (g v) ∷ []) t in
-      let e : any (literalTrue (complete row)) (plus (g (w .0)) ∷ []) ≡ false = rw (h (w .0) (w .1)) refl in
+      let w = one-of (literalTrue (modelIn rows)) m (λ v. plus (g v) ∷ []) t in
+      let e : any (literalTrue (modelIn rows)) (plus (g (w .0)) ∷ []) ≡ false = ap (λ b. b || false) (literal-plus (g (w .0)) ∙ h (w .0) (w .1)) in
       clash (w .2) e)
       (λ f. ap not f)
-      (either (any (literalTrue (complete row)) (table m (λ v. plus (g v)))))
+      (either (any (literalTrue (modelIn rows)) (table m (λ v. plus (g v)))))
 
 -- ---- clauses by their numbers
 
-module _ (file row : List ℕ) (k : ℕ) where
+module _ (file : List ℕ) (rows : Rows) (k : ℕ) where
   abbrev T : Task
   T = taskOf file
 
   abbrev P : Problem
   P = problemOf file k
 
-  value-same : (s x v : ℕ) → bitOfVariable row (valueNumber P s x v) ≡ holdsAt file row s x v
+  value-same : (unnamed : Bool) (s x v : ℕ) → countsTrue unnamed rows (valueNumber P s x v) ≡ holdsAt unnamed file rows s x v
   unfolding holdsAt valueNumber problemOf
-  value-same s x v = refl
+  value-same unnamed s x v = refl
 
-  action-same : (s a : ℕ) → bitOfVariable row (actionNumber P s a) ≡ actsAt file row s a
+  action-same : (unnamed : Bool) (s a : ℕ) → countsTrue unnamed rows (actionNumber P s a) ≡ actsAt unnamed file rows s a
   unfolding actsAt actionNumber problemOf
-  action-same s a = refl
+  action-same unnamed s a = refl
 
-  by-clause : (c : ℕ) (cl : Clause) → clause P c ≡ cl → isFalse file k row c ≡ not (clauseTrue (complete row) cl)
+  by-clause : (c : ℕ) (cl : Clause) → clause P c ≡ cl → isFalse file k rows c ≡ not (clauseTrue (modelIn rows) cl)
   unfolding isFalse
-  by-clause c cl e = ap (λ cl. not (clauseTrue (complete row) cl)) e
+  by-clause c cl e = ap (λ cl. not (clauseTrue (modelIn rows) cl)) e
 
-  pub false-start : (x at : ℕ) → x < itemsOf T 0 → at ≡ firstClause T k 0 0 x → isFalse file k row at ≡ not (holdsAt file row 0 x (startValue T x))
+  pub false-start : (x at : ℕ) → x < itemsOf T 0 → at ≡ firstClause T k 0 0 x → isFalse file k rows at ≡ not (holdsAt false file rows 0 x (startValue T x))
   unfolding itemsOf firstClause stepClauses clausesOf problemOf
   false-start x at hx e =
       by-clause at _ (clause1 P at x hx (omega (arith, sumTo-const x 1, zero-mul (sumTo (n T) (clausesOf T 0)))))
-      ∙ one-plus row (valueNumber P 0 x (startValue T x))
-      ∙ ap not (value-same 0 x (startValue T x))
+      ∙ one-plus rows (valueNumber P 0 x (startValue T x))
+      ∙ ap not (value-same false 0 x (startValue T x))
 
   pub false-goal : (i at : ℕ) → i < itemsOf T 1 → at ≡ firstClause T k 1 0 i
-      → isFalse file k row at ≡ not (holdsAt file row k (pair (T .goal) i .variable) (pair (T .goal) i .value))
+      → isFalse file k rows at ≡ not (holdsAt false file rows k (pair (T .goal) i .variable) (pair (T .goal) i .value))
   unfolding itemsOf firstClause stepClauses clausesOf problemOf
   false-goal i at hi e =
       by-clause at _ (clause2 P at i hi (omega (arith, sumTo-const i 1, zero-mul (sumTo (length (T .goal)) (clausesOf T 1)))))
-      ∙ one-plus row (pairNumber P k (pair (T .goal) i))
-      ∙ ap not (value-same k (pair (T .goal) i .variable) (pair (T .goal) i .value))
+      ∙ one-plus rows (pairNumber P k (pair (T .goal) i))
+      ∙ ap not (value-same false k (pair (T .goal) i .variable) (pair (T .goal) i .value))
 
   abbrev valuesAt : ℕ → ℕ → Clause
   valuesAt s x = table (d T x) (λ v. plus (valueNumber P s x v))
 
   some-is : (s x at : ℕ) → s < stepsOf k 2 → x < itemsOf T 2 → at ≡ firstClause T k 2 s x
-      → isFalse file k row at ≡ not (clauseTrue (complete row) (valuesAt s x))
+      → isFalse file k rows at ≡ not (clauseTrue (modelIn rows) (valuesAt s x))
   unfolding stepsOf itemsOf firstClause stepClauses clausesOf problemOf
   some-is s x at hs hx e =
       by-clause at _ (clause3 P at s x hs hx (e ∙ ap₂ (λ w r. clausesBefore T k 2 + (s * w + r)) (one-each (n T)) (one-each x)))
@@ -127,48 +142,48 @@ module _ (file row : List ℕ) (k : ℕ) where
       one-each : (m : ℕ) → sumTo m (λ i. 1) ≡ m
       one-each m = omega (arith, sumTo-const m 1)
 
-  pub some-true : (s x at v : ℕ) → s < stepsOf k 2 → x < itemsOf T 2 → at ≡ firstClause T k 2 s x → v < d T x → holdsAt file row s x v ≡ true
-      → isFalse file k row at ≡ false
-  some-true s x at v hs hx e hv t = some-is s x at hs hx e ∙ some-plus row (d T x) (valueNumber P s x) v hv (value-same s x v ∙ t)
+  pub some-true : (s x at v : ℕ) → s < stepsOf k 2 → x < itemsOf T 2 → at ≡ firstClause T k 2 s x → v < d T x → holdsAt false file rows s x v ≡ true
+      → isFalse file k rows at ≡ false
+  some-true s x at v hs hx e hv t = some-is s x at hs hx e ∙ some-plus rows (d T x) (valueNumber P s x) v hv (value-same false s x v ∙ t)
 
-  pub some-false : (s x at : ℕ) → s < stepsOf k 2 → x < itemsOf T 2 → at ≡ firstClause T k 2 s x → ((v : ℕ) → v < d T x → holdsAt file row s x v ≡ false)
-      → isFalse file k row at ≡ true
-  some-false s x at hs hx e f = some-is s x at hs hx e ∙ no-plus row (d T x) (valueNumber P s x) (λ v hv. value-same s x v ∙ f v hv)
+  pub some-false : (s x at : ℕ) → s < stepsOf k 2 → x < itemsOf T 2 → at ≡ firstClause T k 2 s x → ((v : ℕ) → v < d T x → holdsAt false file rows s x v ≡ false)
+      → isFalse file k rows at ≡ true
+  some-false s x at hs hx e f = some-is s x at hs hx e ∙ no-plus rows (d T x) (valueNumber P s x) (λ v hv. value-same false s x v ∙ f v hv)
 
   pub false-values : (s x at r v w : ℕ) → s < stepsOf k 3 → x < itemsOf T 3 → at ≡ firstClause T k 3 s x → PairAt (d T x) r v w
-      → isFalse file k row (at + r) ≡ (holdsAt file row s x v && holdsAt file row s x w)
+      → isFalse file k rows (at + r) ≡ (holdsAt true file rows s x v && holdsAt true file rows s x w)
   unfolding stepsOf itemsOf firstClause stepClauses clausesOf problemOf
   false-values s x at r v w hs hx e p =
       by-clause (at + r) _ (clause4 P (at + r) s x r v w hs hx p (omega arith))
-      ∙ minus-minus row (valueNumber P s x v) (valueNumber P s x w)
-      ∙ ap₂ _&&_ (value-same s x v) (value-same s x w)
+      ∙ minus-minus rows (valueNumber P s x v) (valueNumber P s x w)
+      ∙ ap₂ _&&_ (value-same true s x v) (value-same true s x w)
 
   pub false-precondition : (s a at i : ℕ) → s < stepsOf k 4 → a < itemsOf T 4 → at ≡ firstClause T k 4 s a → i < clausesOf T 4 a
-      → isFalse file k row (at + i)
-      ≡ (actsAt file row s a && not (holdsAt file row s (pair (action T a .preconditions) i .variable) (pair (action T a .preconditions) i .value)))
-  unfolding stepsOf itemsOf firstClause stepClauses clausesOf problemOf
+      → isFalse file k rows (at + i)
+      ≡ (actsAt true file rows s a && not (pairAt file rows s (pair (action T a .preconditions) i)))
+  unfolding pairAt stepsOf itemsOf firstClause stepClauses clausesOf problemOf
   false-precondition s a at i hs ha e hi =
       by-clause (at + i) _ (clause5 P (at + i) s a i hs ha hi (omega arith))
-      ∙ minus-plus row (actionNumber P s a) (pairNumber P s (pair (action T a .preconditions) i))
-      ∙ ap₂ (λ a b. a && not b) (action-same s a) (value-same s (pair (action T a .preconditions) i .variable) (pair (action T a .preconditions) i .value))
+      ∙ minus-plus rows (actionNumber P s a) (pairNumber P s (pair (action T a .preconditions) i))
+      ∙ ap₂ (λ a b. a && not b) (action-same true s a) (value-same false s (pair (action T a .preconditions) i .variable) (pair (action T a .preconditions) i .value))
 
   pub false-effect : (s a at i : ℕ) → s < stepsOf k 5 → a < itemsOf T 5 → at ≡ firstClause T k 5 s a → i < clausesOf T 5 a
-      → isFalse file k row (at + i)
-      ≡ (actsAt file row s a && not (holdsAt file row (suc s) (pair (action T a .effects) i .variable) (pair (action T a .effects) i .value)))
-  unfolding stepsOf itemsOf firstClause stepClauses clausesOf problemOf
+      → isFalse file k rows (at + i)
+      ≡ (actsAt true file rows s a && not (pairAt file rows (suc s) (pair (action T a .effects) i)))
+  unfolding pairAt stepsOf itemsOf firstClause stepClauses clausesOf problemOf
   false-effect s a at i hs ha e hi =
       by-clause (at + i) _ (clause6 P (at + i) s a i hs ha hi (omega arith))
-      ∙ minus-plus row (actionNumber P s a) (pairNumber P (suc s) (pair (action T a .effects) i))
-      ∙ ap₂ (λ a b. a && not b) (action-same s a) (value-same (suc s) (pair (action T a .effects) i .variable) (pair (action T a .effects) i .value))
+      ∙ minus-plus rows (actionNumber P s a) (pairNumber P (suc s) (pair (action T a .effects) i))
+      ∙ ap₂ (λ a b. a && not b) (action-same true s a) (value-same false (suc s) (pair (action T a .effects) i .variable) (pair (action T a .effects) i .value))
 
   pub false-stay : (s x at v : ℕ) → s < stepsOf k 6 → x < itemsOf T 6 → at ≡ firstClause T k 6 s x → v < clausesOf T 6 x
-      → isFalse file k row (at + v)
-      ≡ (holdsAt file row (suc s) x v && (not (holdsAt file row s x v) && not (any (literalTrue (complete row)) (supporters P s x v))))
+      → isFalse file k rows (at + v)
+      ≡ (holdsAt true file rows (suc s) x v && (not (holdsAt false file rows s x v) && not (any (literalTrue (modelIn rows)) (supporters P s x v))))
   unfolding stepsOf itemsOf firstClause stepClauses clausesOf problemOf
   false-stay s x at v hs hx e hv =
       by-clause (at + v) _ (clause7 P (at + v) s x v hs hx hv (omega arith))
-      ∙ minus-plus-and row (valueNumber P (suc s) x v) (valueNumber P s x v) (supporters P s x v)
-      ∙ ap₂ (λ a b. a && (not b && not (any (literalTrue (complete row)) (supporters P s x v)))) (value-same (suc s) x v) (value-same s x v)
+      ∙ minus-plus-and rows (valueNumber P (suc s) x v) (valueNumber P s x v) (supporters P s x v)
+      ∙ ap₂ (λ a b. a && (not b && not (any (literalTrue (modelIn rows)) (supporters P s x v)))) (value-same true (suc s) x v) (value-same false s x v)
 
   one-item : stepClauses T 7 ≡ pairsBelow (A T)
   unfolding stepClauses itemsOf clausesOf sumTo
@@ -179,9 +194,9 @@ module _ (file row : List ℕ) (k : ℕ) where
   first-item s = omega (arith, ap (λ w. s * w) one-item)
 
   pub false-actions : (s at r a b : ℕ) → s < stepsOf k 7 → at ≡ firstClause T k 7 s 0 → PairAt (A T) r a b
-      → isFalse file k row (at + r) ≡ (actsAt file row s a && actsAt file row s b)
+      → isFalse file k rows (at + r) ≡ (actsAt true file rows s a && actsAt true file rows s b)
   unfolding stepsOf problemOf
   false-actions s at r a b hs e p =
       by-clause (at + r) _ (clause8 T k (at + r) s r a b hs p (omega (arith, first-item s)))
-      ∙ minus-minus row (actionNumber P s a) (actionNumber P s b)
-      ∙ ap₂ _&&_ (action-same s a) (action-same s b)
+      ∙ minus-minus rows (actionNumber P s a) (actionNumber P s b)
+      ∙ ap₂ _&&_ (action-same true s a) (action-same true s b)

@@ -19,10 +19,10 @@ pub finish-decided : (κs : Lfts 4) (a : Dens κs finish-kinds.ps) (r s : Verdic
     → finish.Post κs a r x → finish.Post κs a s y → (r ≡ s) × (now (x .1 .1 .1 .1 .1 .0) ≡ now (y .1 .1 .1 .1 .1 .0))
 finish-decided κs a r s x y p q = (p .0 ∙ sym (q .0), p .1 ∙ sym (q .1))
 
-pub lowest-false-decided : (κs : Lfts 3) (a : Dens κs lowest-false-kinds.ps) (r s : ℕ) (x y : AtExit (endedOf 3 lowest-false-kinds.ps lowest-false-kinds.r) κs)
+pub lowest-false-decided : (κs : Lfts 4) (a : Dens κs lowest-false-kinds.ps) (r s : ℕ) (x y : AtExit (endedOf 4 lowest-false-kinds.ps lowest-false-kinds.r) κs)
     → lowest-false.Post κs a r x → lowest-false.Post κs a s y → r ≡ s
 lowest-false-decided κs a r s x y p q = p ∙ sym q
 
-pub write-schedule-decided : (κs : Lfts 4) (a : Dens κs write-schedule-kinds.ps) (x y : AtExit (endedOf 4 write-schedule-kinds.ps write-schedule-kinds.r) κs)
-    → write-schedule.Post κs a tt x → write-schedule.Post κs a tt y → now (x .1 .1 .1 .1 .0) ≡ now (y .1 .1 .1 .1 .0)
+pub write-schedule-decided : (κs : Lfts 5) (a : Dens κs write-schedule-kinds.ps) (x y : AtExit (endedOf 5 write-schedule-kinds.ps write-schedule-kinds.r) κs)
+    → write-schedule.Post κs a tt x → write-schedule.Post κs a tt y → now (x .1 .1 .1 .1 .1 .0) ≡ now (y .1 .1 .1 .1 .1 .0)
 write-schedule-decided κs a x y p q = p ∙ sym q

@@ -5,99 +5,43 @@ use mathlib.Core.Bool.{Bool, true, false, not, _&&_}
 use mathlib.Core.List.{List, [], _∷_, _++_}
 use Prim.Native.Nat.{ℕ, suc, _+_, _-_, _≤_, _<_}
 use native.Mathlib.Omega.{arith}
-use native.Mathlib.Numerals.{add-one}
 use borrow.Author.Tests.{le-leb, lt-leb, leb-true}
 use lib.Dec.{leb}
 use lib.ListN.{length, drop}
 use Rattle.rules.specs.Counting.{first}
-use Rattle.rules.specs.Answers.{demand, noneAtFault, judge, inTurn}
-use Rattle.rules.specs.Limits.{maxHorizon}
-use Rattle.rules.specs.Problem.{Problem}
+use Rattle.rules.specs.Answers.{demand, judge, inTurn}
 use Rattle.rules.specs.Numbering.{N}
-use Rattle.rules.specs.Families.{C, clause}
-use Rattle.rules.specs.Rows.{Rows, wordsFor, bitOfVariable}
-use Rattle.rules.specs.Truth.{Model, clauseTrue, modelIn}
-use Rattle.rules.specs.File.{taskOf}
+use Rattle.rules.specs.Families.{C}
+use Rattle.rules.specs.Rows.{Rows, wordsFor}
+use Rattle.rules.specs.Truth.{Model, modelIn}
 use Rattle.rules.specs.Lines.{rowsFit}
 use Rattle.rules.specs.Output.{ending, modelRules, outcome}
 use Rattle.rules.specs.Readings.{scheduleOf}
 use Rattle.rules.specs.Calls.{problemOf, problemRules, problemVerdict, lentAfter, endVerdict, endEntries}
 use Rattle.rules.specs.declared.Refusal.{Refusal}
-use Rattle.rules.specs.declared.Refusal.the-variants.{Room, NotGiven, FalseClause, Unfinished, Unsatisfiable, Unknown}
+use Rattle.rules.specs.declared.Refusal.the-variants.{Room, FalseClause, Unfinished, Unsatisfiable, Unknown}
 use Rattle.rules.specs.declared.Verdict.{Verdict}
 use Rattle.rules.specs.declared.Verdict.the-variants.{Accepted, Refused}
 use Rattle.rules.specs.declared.Phase.{Phase}
 use Rattle.rules.specs.declared.Phase.the-variants.{NoStatus, ModelOpen, ModelClosed, SaidUnsatisfiable, SaidUnknown}
-use Rattle.rules.proofs.Endings.{accepted-holds}
 use Rattle.rules.proofs.Bools.{not-true, not-false, and-right}
-use Rattle.rules.proofs.Counting.{first-le, first-before, first-ext, length-table}
-use Rattle.rules.proofs.Judging.{judge-refused, judge-passed, judge-append, judge-nil, judge-head, inTurn-left, inTurn-right}
-use Rattle.rules.proofs.Bounds.{N-bound}
+use Rattle.rules.proofs.Counting.{first-le, length-table}
+use Rattle.rules.proofs.Judging.{judge-refused, judge-passed, judge-append, judge-nil, judge-head, inTurn-left}
 use Rattle.rules.proofs.Loops.{judge-found, judge-none}
-use Rattle.rules.proofs.Files.{accepted-well-formed}
-use Rattle.rules.proofs.Within.{Agree, clause-same, schedule-alike}
-use Rattle.task.specs.Index.{Indexed}
-use Rattle.rows.specs.Bits.{notSet}
-use Rattle.rows.specs.Bound.{mostVariables}
-use Rattle.checker.specs.Order.{complete, isFalse}
+use Rattle.checker.specs.Order.{isFalse}
 use Rattle.checker.specs.End.{lent, endWith}
 
--- ---- N
+-- ---- 17
 
-pub variables-few : (file index : List ℕ) (k m : ℕ) → Indexed file index → k ≤ maxHorizon → m ≡ N (problemOf file k) → m < mostVariables
-unfolding problemOf
-variables-few file index k m ix low e = omega (arith, N-bound (taskOf file) (accepted-well-formed file (ix .accepted)) k low)
+module _ (file : List ℕ) (k : ℕ) (rows : Rows) (c n : ℕ) (g : c ≡ first (C (problemOf file k)) (isFalse file k rows)) (z : n ≡ C (problemOf file k)) where
+  pub clause-false : c < n → Refused (FalseClause c) ≡ judge (modelRules (problemOf file k) rows)
+  unfolding modelRules isFalse
+  clause-false b = sym (judge-found (C (problemOf file k)) _ FalseClause [] c (omega arith) g)
 
--- ---- 16 and 17
-
-module _ (file index : List ℕ) (k : ℕ) (given isTrue : List ℕ) (ix : Indexed file index) (low : k ≤ maxHorizon) (m v : ℕ)
-    (e : m ≡ N (problemOf file k)) (h : v ≡ first m (notSet given)) where
-  first-missing : v ≡ first (N (problemOf file k)) (λ i. not (modelIn (lent given isTrue) .given (suc i)))
-  unfolding notSet
-  first-missing = h ∙ ap (λ m. first m (notSet given)) e
-
-  pub given-not : v < m → Refused (NotGiven (v + 1)) ≡ judge (modelRules (problemOf file k) (lent given isTrue))
-  unfolding modelRules
-  given-not l =
-      sym (judge-found (N (problemOf file k)) (λ i. not (modelIn (lent given isTrue) .given (suc i))) (λ i. NotGiven (suc i)) _ v (omega arith) first-missing
-      ∙ ap (λ v. Refused (NotGiven v)) (sym (add-one v)))
-
-  module _ (l : m ≤ v) where
-    all-given : (i : ℕ) → i < N (problemOf file k) → bitOfVariable given (suc i) ≡ true
-    unfolding notSet
-    all-given i b = not-false _ (first-before m (notSet given) i (omega arith))
-
-    agree : Agree (problemOf file k) (modelIn (lent given isTrue)) (complete isTrue)
-    agree =
-        record {
-          given-alike = λ v low up. let at : v ≡ suc (v - 1) = omega arith in ap (bitOfVariable given) at ∙ all-given (v - 1) (omega arith);
-          true-alike = λ v low up. refl;
-        }
-
-    rest : judge (modelRules (problemOf file k) (lent given isTrue))
-        ≡ judge (noneAtFault (C (problemOf file k)) (λ c. not (clauseTrue (modelIn (lent given isTrue)) (clause (problemOf file k) c))) FalseClause ∷ [])
-    unfolding modelRules
-    rest =
-        judge-none (N (problemOf file k)) (λ i. not (modelIn (lent given isTrue) .given (suc i))) (λ i. NotGiven (suc i)) _
-        (omega (arith, first-missing, first-le (N (problemOf file k)) (λ i. not (modelIn (lent given isTrue) .given (suc i)))))
-
-    same-lowest : first (C (problemOf file k)) (isFalse file k isTrue)
-        ≡ first (C (problemOf file k)) (λ c. not (clauseTrue (modelIn (lent given isTrue)) (clause (problemOf file k) c)))
-    unfolding isFalse problemOf
-    same-lowest =
-        first-ext (C (problemOf file k)) (isFalse file k isTrue) _ (λ c l.
-        ap not (sym (clause-same (problemOf file k) (modelIn (lent given isTrue)) (complete isTrue) agree (accepted-well-formed file (ix .accepted)) c l)))
-
-    module _ (c n : ℕ) (g : c ≡ first (C (problemOf file k)) (isFalse file k isTrue)) (z : n ≡ C (problemOf file k)) where
-      pub clause-false : c < n → Refused (FalseClause c) ≡ judge (modelRules (problemOf file k) (lent given isTrue))
-      clause-false b = sym (rest ∙ judge-found (C (problemOf file k)) _ FalseClause [] c (omega arith) (g ∙ same-lowest))
-
-      pub clauses-true : n ≤ c → Accepted ≡ judge (modelRules (problemOf file k) (lent given isTrue))
-      clauses-true b =
-          sym (rest
-          ∙ judge-none (C (problemOf file k)) _ FalseClause []
-          (omega (arith, g, same-lowest, first-le (C (problemOf file k)) (isFalse file k isTrue)))
-          ∙ judge-nil)
+  pub clauses-true : n ≤ c → Accepted ≡ judge (modelRules (problemOf file k) rows)
+  unfolding modelRules isFalse
+  clauses-true b =
+      sym (judge-none (C (problemOf file k)) _ FalseClause [] (omega (arith, g, first-le (C (problemOf file k)) (isFalse file k rows))) ∙ judge-nil)
 
 -- ---- 10
 
@@ -179,41 +123,14 @@ length-schedule : (file : List ℕ) (k : ℕ) (M : Model) → length (scheduleOf
 unfolding scheduleOf problemOf
 length-schedule file k M = length-table k _
 
-outcome-of : (file given isTrue entries : List ℕ) (k : ℕ) (phase : Phase) → endVerdict file k phase (lent given isTrue) entries ≡ Accepted
-    → outcome (problemOf file k) phase (lent given isTrue) ≡ Accepted
-unfolding endVerdict
-outcome-of file given isTrue entries k phase h =
-    inTurn-right (judge (problemRules file k ++ (demand (rowsFit (N (problemOf file k)) (lent given isTrue) && leb k (length entries)) Room ∷ [])))
-    (outcome (problemOf file k) phase (lent given isTrue)) h
-
--- an accepted model gives every variable, so its schedule is the one that its bits state
-closed : (P : Problem) (rows : Rows) (phase : Phase) → outcome P phase rows ≡ Accepted → (i : ℕ) → i < N P → modelIn rows .given (suc i) ≡ true
-closed P rows phase h = accepted-holds P rows phase h .complete
-
 pub entries-stated : (file given isTrue entries written : List ℕ) (k : ℕ) (phase : Phase) (v : Verdict)
     → v ≡ endVerdict file k phase (lent given isTrue) entries → v ≡ Accepted
-    → written ≡ scheduleOf (problemOf file k) (complete isTrue) ++ drop k entries → written ≡ endEntries file k phase (lent given isTrue) entries
+    → written ≡ scheduleOf (problemOf file k) (modelIn (lent given isTrue)) ++ drop k entries → written ≡ endEntries file k phase (lent given isTrue) entries
 unfolding endEntries
 entries-stated file given isTrue entries written k phase v e f h =
     h
-    ∙ ap₂ (λ w m. w ++ drop m entries) (sym same) (sym (long (modelIn (lent given isTrue))))
+    ∙ ap (λ m. scheduleOf (problemOf file k) (modelIn (lent given isTrue)) ++ drop m entries) (sym (length-schedule file k (modelIn (lent given isTrue))))
     ∙ ap (λ v. lentAfter v (scheduleOf (problemOf file k) (modelIn (lent given isTrue))) entries) (sym f ∙ e)
-  where
-    accepted : outcome (problemOf file k) phase (lent given isTrue) ≡ Accepted
-    accepted = outcome-of file given isTrue entries k phase (sym e ∙ f)
-
-    same : scheduleOf (problemOf file k) (modelIn (lent given isTrue)) ≡ scheduleOf (problemOf file k) (complete isTrue)
-    same =
-        schedule-alike (problemOf file k) (modelIn (lent given isTrue)) (complete isTrue)
-        (record {
-          given-alike = λ v low up.
-              let at : v ≡ suc (v - 1) = omega arith in
-              ap (bitOfVariable given) at ∙ closed (problemOf file k) (lent given isTrue) phase accepted (v - 1) (omega arith);
-          true-alike = λ v low up. refl;
-        })
-
-    long : (M : Model) → length (scheduleOf (problemOf file k) M) ≡ k
-    long M = length-schedule file k M
 
 -- and there is room for it
 pub entries-room : (file given isTrue entries : List ℕ) (k : ℕ) (phase : Phase) (v : Verdict) → v ≡ endWith file k phase (lent given isTrue) (length entries) → v ≡ Accepted
@@ -236,7 +153,7 @@ module _ (file given isTrue entries : List ℕ) (k : ℕ) (phase : Phase) (p : V
     pub end-accepted : v ≡ Accepted → Accepted ≡ endVerdict file k phase (lent given isTrue) entries
     end-accepted h = sym h ∙ end-same file given isTrue entries k phase p e f v g
 
-    pub late-stated : (written : List ℕ) → v ≡ Accepted → written ≡ scheduleOf (problemOf file k) (complete isTrue) ++ drop k entries
+    pub late-stated : (written : List ℕ) → v ≡ Accepted → written ≡ scheduleOf (problemOf file k) (modelIn (lent given isTrue)) ++ drop k entries
         → written ≡ endEntries file k phase (lent given isTrue) entries
     late-stated written h w = entries-stated file given isTrue entries written k phase v (end-same file given isTrue entries k phase p e f v g) h w
 

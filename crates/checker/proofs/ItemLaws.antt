@@ -16,7 +16,7 @@ use Rattle.rules.specs.Limits.{maxHorizon, maxActions, maxValues, maxC}
 use Rattle.rules.specs.Task.{Task, n, d, A, startValue, pair, action}
 use Rattle.rules.specs.Numbering.{stride, valueNumber, actionNumber}
 use Rattle.rules.specs.Counts.{pairsBelow}
-use Rattle.rules.specs.Rows.{bitOfVariable}
+use Rattle.rules.specs.Rows.{Rows}
 use Rattle.rules.specs.File.{taskOf}
 use Rattle.rules.proofs.Bools.{not-true, not-false, below-or}
 use Rattle.rules.proofs.Counting.{first-le, first-before, first-at, first-is, first-none, sumTo-part}
@@ -25,9 +25,9 @@ use Rattle.rules.proofs.Valid.{WellFormed, Inside, ActionFine}
 use Rattle.rules.proofs.Files.{accepted-well-formed}
 use Rattle.task.specs.Index.{Indexed}
 use Rattle.task.specs.Numbers.{atAnyHorizon}
-use Rattle.rows.specs.Bits.{setFrom}
+use Rattle.rows.specs.Bits.{countsTrue, setFrom}
 use Rattle.rows.specs.Bound.{mostVariables}
-use Rattle.checker.specs.Order.{holdsAt, actsAt, isFalse, stepsOf, itemsOf, clausesOf, Come, FirstPair, startValues, goalPairs, someValue, twoValues, preconditionsHold, effectsHold, twoActions}
+use Rattle.checker.specs.Order.{holdsAt, pairAt, actsAt, isFalse, stepsOf, itemsOf, clausesOf, Come, FirstPair, startValues, goalPairs, someValue, twoValues, preconditionsHold, effectsHold, twoActions}
 use Rattle.checker.proofs.Widths.{steps-most, item-few}
 use Rattle.checker.proofs.Clauses.{false-start, false-goal, some-true, some-false, false-values, false-precondition, false-effect, false-actions}
 
@@ -50,16 +50,16 @@ module _ (q : ℕ → Bool) (at : ℕ) (none : first at q ≡ at) where
   next-false : (b : Bool) → q at ≡ b → b ≡ true → at ≡ first (at + 1) q
   next-false b e t = sym (first-is (at + 1) q at (omega arith) (e ∙ t) (λ j l. first-before at q j (omega arith)))
 
-module _ (file index row : List ℕ) (k : ℕ) where
+module _ (file index : List ℕ) (rows : Rows) (k : ℕ) where
   abbrev T : Task
   T = taskOf file
 
   abbrev q : ℕ → Bool
-  q = isFalse file k row
+  q = isFalse file k rows
 
   -- ---- what is asked
 
-  module _ (f s i at : ℕ) (c : Come file index row k f s i at) where
+  module _ (f s i at : ℕ) (c : Come file index rows k f s i at) where
     fine : WellFormed T
     fine = accepted-well-formed file (c .reached .indexed .accepted)
 
@@ -70,69 +70,69 @@ module _ (file index row : List ℕ) (k : ℕ) where
     item-bound = omega (arith, item-few T fine k f (c .reached .low) (c .family) s i (c .step) (c .item), c .reached .is)
 
   module _ (s i at : ℕ) where
-    pub start-item : Come file index row k startValues s i at → i < n T
+    pub start-item : Come file index rows k startValues s i at → i < n T
     unfolding itemsOf
     start-item c = c .item
 
-    pub goal-item : Come file index row k goalPairs s i at → i < length (T .goal)
+    pub goal-item : Come file index rows k goalPairs s i at → i < length (T .goal)
     unfolding itemsOf
     goal-item c = c .item
 
-    pub some-item : Come file index row k someValue s i at → i < n T
+    pub some-item : Come file index rows k someValue s i at → i < n T
     unfolding itemsOf
     some-item c = c .item
 
-    pub two-item : Come file index row k twoValues s i at → i < n T
+    pub two-item : Come file index rows k twoValues s i at → i < n T
     unfolding itemsOf
     two-item c = c .item
 
-    pub precondition-item : (p : ℕ) → Come file index row k preconditionsHold s i at → p ≡ i → p < A T
+    pub precondition-item : (p : ℕ) → Come file index rows k preconditionsHold s i at → p ≡ i → p < A T
     unfolding itemsOf
     precondition-item p c e = let l : i < A T = c .item in omega arith
 
-    pub effect-item : (p : ℕ) → Come file index row k effectsHold s i at → p ≡ i → p < A T
+    pub effect-item : (p : ℕ) → Come file index rows k effectsHold s i at → p ≡ i → p < A T
     unfolding itemsOf
     effect-item p c e = let l : i < A T = c .item in omega arith
 
-    pub effect-step : Come file index row k effectsHold s i at → s + 1 ≤ maxHorizon
+    pub effect-step : Come file index rows k effectsHold s i at → s + 1 ≤ maxHorizon
     unfolding stepsOf
     effect-step c = let l : s < k = c .step in omega (arith, c .reached .low)
 
-    pub start-fits : Come file index row k startValues s i at → Fits w64 (at + 1)
+    pub start-fits : Come file index rows k startValues s i at → Fits w64 (at + 1)
     unfolding clausesOf
     start-fits c = record { fits = omega (arith, item-bound startValues s i at c) }
 
-    pub goal-fits : Come file index row k goalPairs s i at → Fits w64 (at + 1)
+    pub goal-fits : Come file index rows k goalPairs s i at → Fits w64 (at + 1)
     unfolding clausesOf
     goal-fits c = record { fits = omega (arith, item-bound goalPairs s i at c) }
 
-    pub some-fits : Come file index row k someValue s i at → Fits w64 (at + 1)
+    pub some-fits : Come file index rows k someValue s i at → Fits w64 (at + 1)
     unfolding clausesOf
     some-fits c = record { fits = omega (arith, item-bound someValue s i at c) }
 
-    pub start-inside : (v : ℕ) → Come file index row k startValues s i at → v ≡ startValue T i → v < d T i
+    pub start-inside : (v : ℕ) → Come file index rows k startValues s i at → v ≡ startValue T i → v < d T i
     unfolding itemsOf
     start-inside v c e = omega (arith, fine startValues s i at c .start-inside i (c .item))
 
-    goal-inside : Come file index row k goalPairs s i at → Inside T (pair (T .goal) i)
+    goal-inside : Come file index rows k goalPairs s i at → Inside T (pair (T .goal) i)
     unfolding itemsOf
     goal-inside c = fine goalPairs s i at c .goal-fine .inside-each i (c .item)
 
-    pub goal-variable : (x : ℕ) → Come file index row k goalPairs s i at → x ≡ pair (T .goal) i .variable → x < n T
+    pub goal-variable : (x : ℕ) → Come file index rows k goalPairs s i at → x ≡ pair (T .goal) i .variable → x < n T
     goal-variable x c e = omega (arith, goal-inside c .variable-below)
 
-    pub goal-value : (x v : ℕ) → Come file index row k goalPairs s i at → x ≡ pair (T .goal) i .variable → v ≡ pair (T .goal) i .value → v < d T x
+    pub goal-value : (x v : ℕ) → Come file index rows k goalPairs s i at → x ≡ pair (T .goal) i .variable → v ≡ pair (T .goal) i .value → v < d T x
     goal-value x v c e f = rw (e, f) (goal-inside c .value-below)
 
     module _ (m : ℕ) where
       -- the pairs of an action are inside, and so few that their numbers fit
-      pub precondition-fits : (p t : ℕ) → Come file index row k preconditionsHold s i at → p ≡ i → m ≡ length (action T p .preconditions) → t ≤ m → Fits w64 (at + t)
+      pub precondition-fits : (p t : ℕ) → Come file index rows k preconditionsHold s i at → p ≡ i → m ≡ length (action T p .preconditions) → t ≤ m → Fits w64 (at + t)
       unfolding clausesOf
       precondition-fits p t c e h l =
           let z : m ≡ length (action T i .preconditions) = h ∙ ap (λ a. length (action T a .preconditions)) e in
           record { fits = omega (arith, item-bound preconditionsHold s i at c) }
 
-      pub effect-fits : (p t : ℕ) → Come file index row k effectsHold s i at → p ≡ i → m ≡ length (action T p .effects) → t ≤ m → Fits w64 (at + t)
+      pub effect-fits : (p t : ℕ) → Come file index rows k effectsHold s i at → p ≡ i → m ≡ length (action T p .effects) → t ≤ m → Fits w64 (at + t)
       unfolding clausesOf
       effect-fits p t c e h l =
           let z : m ≡ length (action T i .effects) = h ∙ ap (λ a. length (action T a .effects)) e in
@@ -144,15 +144,15 @@ module _ (file index row : List ℕ) (k : ℕ) where
       pub effect-there : (p t : ℕ) → p ≡ i → m ≡ length (action T p .effects) → t < m → t < length (action T i .effects)
       effect-there p t e h l = rw e at (rw h at l)
 
-    pub precondition-action : Come file index row k preconditionsHold s i at → i < A T
+    pub precondition-action : Come file index rows k preconditionsHold s i at → i < A T
     unfolding itemsOf
     precondition-action c = c .item
 
-    pub effect-action : Come file index row k effectsHold s i at → i < A T
+    pub effect-action : Come file index rows k effectsHold s i at → i < A T
     unfolding itemsOf
     effect-action c = c .item
 
-    pub effect-next : Come file index row k effectsHold s i at → Fits w64 (s + 1)
+    pub effect-next : Come file index rows k effectsHold s i at → Fits w64 (s + 1)
     effect-next c = record { fits = omega (arith, effect-step c) }
 
   -- ---- the numbers of a step, one behind the other
@@ -186,19 +186,19 @@ module _ (file index row : List ℕ) (k : ℕ) where
     unfolding actionNumber
     action-from e = omega arith
 
-    set-value : (x v : ℕ) → from ≡ valueNumber (atAnyHorizon file) s x 0 → setFrom row from v ≡ holdsAt file row s x v
+    set-value : (unnamed : Bool) (x v : ℕ) → from ≡ valueNumber (atAnyHorizon file) s x 0 → setFrom (countsTrue unnamed rows) from v ≡ holdsAt unnamed file rows s x v
     unfolding setFrom holdsAt valueNumber
-    set-value x v e = ap (bitOfVariable row) (omega arith)
+    set-value unnamed x v e = ap (countsTrue unnamed rows) (omega arith)
 
-    set-action : (a : ℕ) → from ≡ actionNumber (atAnyHorizon file) s 0 → setFrom row from a ≡ actsAt file row s a
+    set-action : (a : ℕ) → from ≡ actionNumber (atAnyHorizon file) s 0 → setFrom (countsTrue true rows) from a ≡ actsAt true file rows s a
     unfolding setFrom actsAt actionNumber
-    set-action a e = ap (bitOfVariable row) (omega arith)
+    set-action a e = ap (countsTrue true rows) (omega arith)
 
   -- ---- the answers
 
-  module _ (x at : ℕ) (c : Come file index row k startValues 0 x at) (v : ℕ) (b : Bool) (e : v ≡ startValue T x) (h : b ≡ holdsAt file row 0 x v) where
+  module _ (x at : ℕ) (c : Come file index rows k startValues 0 x at) (v : ℕ) (b : Bool) (e : v ≡ startValue T x) (h : b ≡ holdsAt false file rows 0 x v) where
     start-is : q at ≡ not b
-    start-is = false-start file row k x at (c .item) (c .reached .is) ∙ ap not (ap (holdsAt file row 0 x) (sym e) ∙ sym h)
+    start-is = false-start file rows k x at (c .item) (c .reached .is) ∙ ap not (ap (holdsAt false file rows 0 x) (sym e) ∙ sym h)
 
     pub start-true : b ≡ true → at + 1 ≡ first (at + clausesOf T startValues x) q
     unfolding clausesOf
@@ -208,10 +208,10 @@ module _ (file index row : List ℕ) (k : ℕ) where
     unfolding clausesOf
     start-false t = next-false q at (c .reached .none) (not b) start-is (ap not t)
 
-  module _ (i at : ℕ) (c : Come file index row k goalPairs 0 i at) (x v : ℕ) (b : Bool) (e : x ≡ pair (T .goal) i .variable) (g : v ≡ pair (T .goal) i .value)
-      (h : b ≡ holdsAt file row k x v) where
+  module _ (i at : ℕ) (c : Come file index rows k goalPairs 0 i at) (x v : ℕ) (b : Bool) (e : x ≡ pair (T .goal) i .variable) (g : v ≡ pair (T .goal) i .value)
+      (h : b ≡ holdsAt false file rows k x v) where
     goal-is : q at ≡ not b
-    goal-is = false-goal file row k i at (c .item) (c .reached .is) ∙ ap not (ap₂ (holdsAt file row k) (sym e) (sym g) ∙ sym h)
+    goal-is = false-goal file rows k i at (c .item) (c .reached .is) ∙ ap not (ap₂ (holdsAt false file rows k) (sym e) (sym g) ∙ sym h)
 
     pub goal-true : b ≡ true → at + 1 ≡ first (at + clausesOf T goalPairs i) q
     unfolding clausesOf
@@ -221,31 +221,31 @@ module _ (file index row : List ℕ) (k : ℕ) where
     unfolding clausesOf
     goal-false t = next-false q at (c .reached .none) (not b) goal-is (ap not t)
 
-  module _ (s x at : ℕ) (c : Come file index row k someValue s x at) (from m t : ℕ) (e : from ≡ valueNumber (atAnyHorizon file) s x 0) (g : m ≡ d T x)
-      (h : t ≡ first m (setFrom row from)) where
+  module _ (s x at : ℕ) (c : Come file index rows k someValue s x at) (from m t : ℕ) (e : from ≡ valueNumber (atAnyHorizon file) s x 0) (g : m ≡ d T x)
+      (h : t ≡ first m (setFrom (countsTrue false rows) from)) where
     pub some-found : t < m → at + 1 ≡ first (at + clausesOf T someValue x) q
     unfolding clausesOf
     some-found l =
         next-true q at (c .reached .none) false
-        (some-true file row k s x at t (c .step) (c .item) (c .reached .is) (omega arith)
-        (sym (set-value s from x t e) ∙ ap (setFrom row from) h ∙ first-at m (setFrom row from) (omega arith)))
+        (some-true file rows k s x at t (c .step) (c .item) (c .reached .is) (omega arith)
+        (sym (set-value s from false x t e) ∙ ap (setFrom (countsTrue false rows) from) h ∙ first-at m (setFrom (countsTrue false rows) from) (omega arith)))
         refl
 
     pub some-missing : m ≤ t → at ≡ first (at + clausesOf T someValue x) q
     unfolding clausesOf
     some-missing l =
         next-false q at (c .reached .none) true
-        (some-false file row k s x at (c .step) (c .item) (c .reached .is)
-        (λ v hv. sym (set-value s from x v e) ∙ first-before m (setFrom row from) v (omega arith)))
+        (some-false file rows k s x at (c .step) (c .item) (c .reached .is)
+        (λ v hv. sym (set-value s from false x v e) ∙ first-before m (setFrom (countsTrue false rows) from) v (omega arith)))
         refl
 
-  module _ (s x at : ℕ) (c : Come file index row k twoValues s x at) (from m r : ℕ) (e : from ≡ valueNumber (atAnyHorizon file) s x 0) (g : m ≡ d T x)
-      (h : FirstPair m (setFrom row from) r) where
+  module _ (s x at : ℕ) (c : Come file index rows k twoValues s x at) (from m r : ℕ) (e : from ≡ valueNumber (atAnyHorizon file) s x 0) (g : m ≡ d T x)
+      (h : FirstPair m (setFrom (countsTrue true rows) from) r) where
     pairs-is : r ≡ first (pairsBelow m) (λ j. q (at + j))
     pairs-is =
         h .lowest (λ j. q (at + j)) (λ j v w p.
-        false-values file row k s x at j v w (c .step) (c .item) (c .reached .is) (rw g at p)
-        ∙ ap₂ _&&_ (sym (set-value s from x v e)) (sym (set-value s from x w e)))
+        false-values file rows k s x at j v w (c .step) (c .item) (c .reached .is) (rw g at p)
+        ∙ ap₂ _&&_ (sym (set-value s from true x v e)) (sym (set-value s from true x w e)))
 
     pub two-fits : Fits w64 (at + r)
     unfolding clausesOf
@@ -257,7 +257,7 @@ module _ (file index row : List ℕ) (k : ℕ) where
     unfolding clausesOf
     two-lowest = chunk-lowest q at (c .reached .none) (pairsBelow (d T x)) r (pairs-is ∙ ap (λ m. first (pairsBelow m) (λ j. q (at + j))) g)
 
-  module _ (s at : ℕ) (c : Come file index row k twoActions s 0 at) (m : ℕ) (g : m ≡ A T) where
+  module _ (s at : ℕ) (c : Come file index rows k twoActions s 0 at) (m : ℕ) (g : m ≡ A T) where
     pub no-actions : m ≡ 0 → at ≡ first (at + clausesOf T twoActions 0) q
     unfolding clausesOf
     no-actions z =
@@ -268,11 +268,11 @@ module _ (file index row : List ℕ) (k : ℕ) where
     pub some-actions : (m ≡ 0 → ⊥) → 0 < A T
     some-actions z = omega (arith, z)
 
-    module _ (from r : ℕ) (e : from ≡ actionNumber (atAnyHorizon file) s 0) (h : FirstPair m (setFrom row from) r) where
+    module _ (from r : ℕ) (e : from ≡ actionNumber (atAnyHorizon file) s 0) (h : FirstPair m (setFrom (countsTrue true rows) from) r) where
       actions-is : r ≡ first (pairsBelow m) (λ j. q (at + j))
       actions-is =
           h .lowest (λ j. q (at + j)) (λ j a b p.
-          false-actions file row k s at j a b (c .step) (c .reached .is) (rw g at p)
+          false-actions file rows k s at j a b (c .step) (c .reached .is) (rw g at p)
           ∙ ap₂ _&&_ (sym (set-action s from a e)) (sym (set-action s from b e)))
 
       pub actions-fits : Fits w64 (at + r)
@@ -306,8 +306,8 @@ module _ (q : ℕ → Bool) (at : ℕ) where
         let y : at + t ≡ at + n = omega arith in
         z ∙ sym none ∙ ap (λ m. first m q) y
 
-module _ (file index row : List ℕ) (k s a at : ℕ) (c : Come file index row k preconditionsHold s a at) (p m : ℕ) (e : p ≡ a)
-    (h : m ≡ length (action (taskOf file) p .preconditions)) (acting : Bool) (g : acting ≡ actsAt file row s a) where
+module _ (file index : List ℕ) (rows : Rows) (k s a at : ℕ) (c : Come file index rows k preconditionsHold s a at) (p m : ℕ) (e : p ≡ a)
+    (h : m ≡ length (action (taskOf file) p .preconditions)) (acting : Bool) (g : acting ≡ actsAt true file rows s a) where
   abbrev count4 : ℕ
   count4 = clausesOf (taskOf file) preconditionsHold a
 
@@ -315,33 +315,33 @@ module _ (file index row : List ℕ) (k s a at : ℕ) (c : Come file index row k
   unfolding clausesOf
   precondition-count = h ∙ ap (λ a. length (action (taskOf file) a .preconditions)) e
 
-  pub precondition-idle : not acting ≡ true → at + m ≡ first (at + count4) (isFalse file k row)
+  pub precondition-idle : not acting ≡ true → at + m ≡ first (at + count4) (isFalse file k rows)
   precondition-idle z =
-      let idle : actsAt file row s a ≡ false = sym g ∙ not-true acting z in
+      let idle : actsAt true file rows s a ≡ false = sym g ∙ not-true acting z in
       ap (λ m. at + m) precondition-count
-      ∙ chunk-true (isFalse file k row) at (c .reached .none) count4 (λ j l.
-      false-precondition file row k s a at j (c .step) (c .item) (c .reached .is) l
-      ∙ ap (λ b. b && not (holdsAt file row s (pair (action (taskOf file) a .preconditions) j .variable) (pair (action (taskOf file) a .preconditions) j .value))) idle)
+      ∙ chunk-true (isFalse file k rows) at (c .reached .none) count4 (λ j l.
+      false-precondition file rows k s a at j (c .step) (c .item) (c .reached .is) l
+      ∙ ap (λ b. b && not (pairAt file rows s (pair (action (taskOf file) a .preconditions) j))) idle)
 
-  pub precondition-all : (t : ℕ) → first (at + t) (isFalse file k row) ≡ at + t → t ≤ m → m ≤ t → at + m ≡ first (at + count4) (isFalse file k row)
-  precondition-all t none l u = pairs-all (isFalse file k row) at t none m count4 l u precondition-count
+  pub precondition-all : (t : ℕ) → first (at + t) (isFalse file k rows) ≡ at + t → t ≤ m → m ≤ t → at + m ≡ first (at + count4) (isFalse file k rows)
+  precondition-all t none l u = pairs-all (isFalse file k rows) at t none m count4 l u precondition-count
 
-  module _ (z : not acting ≡ false) (t : ℕ) (none : first (at + t) (isFalse file k row) ≡ at + t) (l : t < m) (b : Bool)
-      (hb : b ≡ holdsAt file row s (pair (action (taskOf file) a .preconditions) t .variable) (pair (action (taskOf file) a .preconditions) t .value)) where
-    precondition-is : isFalse file k row (at + t) ≡ not b
+  module _ (z : not acting ≡ false) (t : ℕ) (none : first (at + t) (isFalse file k rows) ≡ at + t) (l : t < m) (b : Bool)
+      (hb : b ≡ pairAt file rows s (pair (action (taskOf file) a .preconditions) t)) where
+    precondition-is : isFalse file k rows (at + t) ≡ not b
     precondition-is =
         let there : t < count4 = omega (arith, precondition-count) in
-        false-precondition file row k s a at t (c .step) (c .item) (c .reached .is) there
+        false-precondition file rows k s a at t (c .step) (c .item) (c .reached .is) there
         ∙ ap₂ (λ a b. a && not b) (sym g ∙ not-false acting z) (sym hb)
 
-    pub precondition-fails : not b ≡ true → at + t ≡ first (at + count4) (isFalse file k row)
-    precondition-fails f = pairs-found (isFalse file k row) at t none count4 (omega (arith, precondition-count)) (precondition-is ∙ f)
+    pub precondition-fails : not b ≡ true → at + t ≡ first (at + count4) (isFalse file k rows)
+    precondition-fails f = pairs-found (isFalse file k rows) at t none count4 (omega (arith, precondition-count)) (precondition-is ∙ f)
 
-    pub precondition-again : not b ≡ false → first (at + (t + 1)) (isFalse file k row) ≡ at + (t + 1)
-    precondition-again f = pairs-more (isFalse file k row) at t none (precondition-is ∙ f)
+    pub precondition-again : not b ≡ false → first (at + (t + 1)) (isFalse file k rows) ≡ at + (t + 1)
+    precondition-again f = pairs-more (isFalse file k rows) at t none (precondition-is ∙ f)
 
-module _ (file index row : List ℕ) (k s a at : ℕ) (c : Come file index row k effectsHold s a at) (p m : ℕ) (e : p ≡ a)
-    (h : m ≡ length (action (taskOf file) p .effects)) (acting : Bool) (g : acting ≡ actsAt file row s a) where
+module _ (file index : List ℕ) (rows : Rows) (k s a at : ℕ) (c : Come file index rows k effectsHold s a at) (p m : ℕ) (e : p ≡ a)
+    (h : m ≡ length (action (taskOf file) p .effects)) (acting : Bool) (g : acting ≡ actsAt true file rows s a) where
   abbrev count5 : ℕ
   count5 = clausesOf (taskOf file) effectsHold a
 
@@ -349,30 +349,30 @@ module _ (file index row : List ℕ) (k s a at : ℕ) (c : Come file index row k
   unfolding clausesOf
   effect-count = h ∙ ap (λ a. length (action (taskOf file) a .effects)) e
 
-  pub effect-idle : not acting ≡ true → at + m ≡ first (at + count5) (isFalse file k row)
+  pub effect-idle : not acting ≡ true → at + m ≡ first (at + count5) (isFalse file k rows)
   effect-idle z =
-      let idle : actsAt file row s a ≡ false = sym g ∙ not-true acting z in
+      let idle : actsAt true file rows s a ≡ false = sym g ∙ not-true acting z in
       ap (λ m. at + m) effect-count
-      ∙ chunk-true (isFalse file k row) at (c .reached .none) count5 (λ j l.
-      false-effect file row k s a at j (c .step) (c .item) (c .reached .is) l
-      ∙ ap (λ b. b && not (holdsAt file row (suc s) (pair (action (taskOf file) a .effects) j .variable) (pair (action (taskOf file) a .effects) j .value))) idle)
+      ∙ chunk-true (isFalse file k rows) at (c .reached .none) count5 (λ j l.
+      false-effect file rows k s a at j (c .step) (c .item) (c .reached .is) l
+      ∙ ap (λ b. b && not (pairAt file rows (suc s) (pair (action (taskOf file) a .effects) j))) idle)
 
-  pub effect-all : (t : ℕ) → first (at + t) (isFalse file k row) ≡ at + t → t ≤ m → m ≤ t → at + m ≡ first (at + count5) (isFalse file k row)
-  effect-all t none l u = pairs-all (isFalse file k row) at t none m count5 l u effect-count
+  pub effect-all : (t : ℕ) → first (at + t) (isFalse file k rows) ≡ at + t → t ≤ m → m ≤ t → at + m ≡ first (at + count5) (isFalse file k rows)
+  effect-all t none l u = pairs-all (isFalse file k rows) at t none m count5 l u effect-count
 
-  module _ (z : not acting ≡ false) (t : ℕ) (none : first (at + t) (isFalse file k row) ≡ at + t) (l : t < m) (b : Bool)
-      (hb : b ≡ holdsAt file row (s + 1) (pair (action (taskOf file) a .effects) t .variable) (pair (action (taskOf file) a .effects) t .value)) where
-    effect-is : isFalse file k row (at + t) ≡ not b
+  module _ (z : not acting ≡ false) (t : ℕ) (none : first (at + t) (isFalse file k rows) ≡ at + t) (l : t < m) (b : Bool)
+      (hb : b ≡ pairAt file rows (s + 1) (pair (action (taskOf file) a .effects) t)) where
+    effect-is : isFalse file k rows (at + t) ≡ not b
     effect-is =
         let there : t < count5 = omega (arith, effect-count) in
-        false-effect file row k s a at t (c .step) (c .item) (c .reached .is) there
-        ∙ ap₂ (λ a b. a && not b) (sym g ∙ not-false acting z) (ap (λ u. holdsAt file row u (pair (action (taskOf file) a .effects) t .variable) (pair (action (taskOf file) a .effects) t .value)) (sym (add-one s)) ∙ sym hb)
+        false-effect file rows k s a at t (c .step) (c .item) (c .reached .is) there
+        ∙ ap₂ (λ a b. a && not b) (sym g ∙ not-false acting z) (ap (λ u. pairAt file rows u (pair (action (taskOf file) a .effects) t)) (sym (add-one s)) ∙ sym hb)
 
-    pub effect-fails : not b ≡ true → at + t ≡ first (at + count5) (isFalse file k row)
-    effect-fails f = pairs-found (isFalse file k row) at t none count5 (omega (arith, effect-count)) (effect-is ∙ f)
+    pub effect-fails : not b ≡ true → at + t ≡ first (at + count5) (isFalse file k rows)
+    effect-fails f = pairs-found (isFalse file k rows) at t none count5 (omega (arith, effect-count)) (effect-is ∙ f)
 
-    pub effect-again : not b ≡ false → first (at + (t + 1)) (isFalse file k row) ≡ at + (t + 1)
-    effect-again f = pairs-more (isFalse file k row) at t none (effect-is ∙ f)
+    pub effect-again : not b ≡ false → first (at + (t + 1)) (isFalse file k rows) ≡ at + (t + 1)
+    effect-again f = pairs-more (isFalse file k rows) at t none (effect-is ∙ f)
 
 -- ---- one pair of an action
 
@@ -390,11 +390,12 @@ module _ (file index : List ℕ) (ix : Indexed file index) (a i o x v : ℕ) (h 
     pub precondition-value : x ≡ pair (action (taskOf file) o .preconditions) i .variable → v ≡ pair (action (taskOf file) o .preconditions) i .value → v < d (taskOf file) x
     precondition-value u w = rw (u, w) (fine-action .preconditions-fine .inside-each i precondition-asked .value-below)
 
-    pub precondition-read : (row : List ℕ) (s : ℕ) (b : Bool) → x ≡ pair (action (taskOf file) o .preconditions) i .variable → v ≡ pair (action (taskOf file) o .preconditions) i .value
-        → b ≡ holdsAt file row s x v → b ≡ holdsAt file row s (pair (action (taskOf file) a .preconditions) i .variable) (pair (action (taskOf file) a .preconditions) i .value)
-    precondition-read row s b u w g =
-        g ∙ ap₂ (holdsAt file row s) u w
-        ∙ ap (λ a. holdsAt file row s (pair (action (taskOf file) a .preconditions) i .variable) (pair (action (taskOf file) a .preconditions) i .value)) e
+    pub precondition-read : (rows : Rows) (s : ℕ) (b : Bool) → x ≡ pair (action (taskOf file) o .preconditions) i .variable → v ≡ pair (action (taskOf file) o .preconditions) i .value
+        → b ≡ holdsAt false file rows s x v → b ≡ pairAt file rows s (pair (action (taskOf file) a .preconditions) i)
+    unfolding pairAt
+    precondition-read rows s b u w g =
+        g ∙ ap₂ (holdsAt false file rows s) u w
+        ∙ ap (λ a. pairAt file rows s (pair (action (taskOf file) a .preconditions) i)) e
 
   module _ (l : i < length (action (taskOf file) a .effects)) where
     pub effect-asked : i < length (action (taskOf file) o .effects)
@@ -406,8 +407,9 @@ module _ (file index : List ℕ) (ix : Indexed file index) (a i o x v : ℕ) (h 
     pub effect-value : x ≡ pair (action (taskOf file) o .effects) i .variable → v ≡ pair (action (taskOf file) o .effects) i .value → v < d (taskOf file) x
     effect-value u w = rw (u, w) (fine-action .effects-fine .inside-each i effect-asked .value-below)
 
-    pub effect-read : (row : List ℕ) (s : ℕ) (b : Bool) → x ≡ pair (action (taskOf file) o .effects) i .variable → v ≡ pair (action (taskOf file) o .effects) i .value
-        → b ≡ holdsAt file row s x v → b ≡ holdsAt file row s (pair (action (taskOf file) a .effects) i .variable) (pair (action (taskOf file) a .effects) i .value)
-    effect-read row s b u w g =
-        g ∙ ap₂ (holdsAt file row s) u w
-        ∙ ap (λ a. holdsAt file row s (pair (action (taskOf file) a .effects) i .variable) (pair (action (taskOf file) a .effects) i .value)) e
+    pub effect-read : (rows : Rows) (s : ℕ) (b : Bool) → x ≡ pair (action (taskOf file) o .effects) i .variable → v ≡ pair (action (taskOf file) o .effects) i .value
+        → b ≡ holdsAt false file rows s x v → b ≡ pairAt file rows s (pair (action (taskOf file) a .effects) i)
+    unfolding pairAt
+    effect-read rows s b u w g =
+        g ∙ ap₂ (holdsAt false file rows s) u w
+        ∙ ap (λ a. pairAt file rows s (pair (action (taskOf file) a .effects) i)) e

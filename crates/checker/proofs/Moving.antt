@@ -12,6 +12,7 @@ use Rattle.rules.specs.Counting.{first, sumTo}
 use Rattle.rules.specs.Limits.{maxHorizon}
 use Rattle.rules.specs.Task.{Task}
 use Rattle.rules.specs.Families.{C}
+use Rattle.rules.specs.Rows.{Rows}
 use Rattle.rules.specs.File.{taskOf}
 use Rattle.rules.specs.Calls.{problemOf}
 use Rattle.rules.proofs.Counting.{first-le, first-before, first-at, first-is}
@@ -38,26 +39,26 @@ module _ (q : ℕ → Bool) where
   passed : (c m : ℕ) → c ≡ first m q → m ≤ c → first m q ≡ m
   passed c m e l = omega (arith, first-le m q)
 
-module _ (file index row : List ℕ) (k : ℕ) where
+module _ (file index : List ℕ) (rows : Rows) (k : ℕ) where
   abbrev T : Task
   T = taskOf file
 
   abbrev q : ℕ → Bool
-  q = isFalse file k row
+  q = isFalse file k rows
 
   -- ---- one item, by the family's number
 
-  module _ (f s i at : ℕ) (c : Come file index row k f s i at) where
-    pub come-same : (g : ℕ) → f ≡ g → Come file index row k g s i at
+  module _ (f s i at : ℕ) (c : Come file index rows k f s i at) where
+    pub come-same : (g : ℕ) → f ≡ g → Come file index rows k g s i at
     come-same g e = rw e at c
 
-    pub come-start : f ≡ 0 → Come file index row k 0 0 i at
+    pub come-start : f ≡ 0 → Come file index rows k 0 0 i at
     unfolding stepsOf
     come-start e =
         let z : s ≡ 0 = let l : s < 1 = (rw e at c) .step in omega arith in
         rw z at (rw e at c)
 
-    pub come-goal : f ≡ 1 → Come file index row k 1 0 i at
+    pub come-goal : f ≡ 1 → Come file index rows k 1 0 i at
     unfolding stepsOf
     come-goal e =
         let z : s ≡ 0 = let l : s < 1 = (rw e at c) .step in omega arith in
@@ -70,7 +71,7 @@ module _ (file index row : List ℕ) (k : ℕ) where
           (beyond f 6 (beyond f 5 (beyond f 4 (beyond f 3 (beyond f 2 (beyond f 1 (beyond f 0 (omega arith) n0) n1) n2) n3) n4) n5) n6)
           (c .family)
 
-      pub come-actions : Come file index row k 7 s 0 at
+      pub come-actions : Come file index rows k 7 s 0 at
       unfolding itemsOf
       come-actions =
           let z : i ≡ 0 = let l : i < 1 = (rw last at c) .item in omega arith in
@@ -85,8 +86,8 @@ module _ (file index row : List ℕ) (k : ℕ) where
 
   -- ---- the items of a step
 
-  module _ (f s i at : ℕ) (r : Reached file index row k f s i at) (hf : f < familyCount) (hs : s < stepsOf k f) where
-    pub come-here : (m : ℕ) → m ≡ itemsOf T f → i < m → Come file index row k f s i at
+  module _ (f s i at : ℕ) (r : Reached file index rows k f s i at) (hf : f < familyCount) (hs : s < stepsOf k f) where
+    pub come-here : (m : ℕ) → m ≡ itemsOf T f → i < m → Come file index rows k f s i at
     come-here m e l = record { reached = r; family = hf; step = hs; item = omega arith }
 
     pub item-there : (m : ℕ) → m ≡ itemsOf T f → i < m → i < itemsOf T f
@@ -107,7 +108,7 @@ module _ (file index row : List ℕ) (k : ℕ) where
             further q c (at + clausesOf T f i) (start + stepClauses T f) g (omega arith)
             (omega (arith, item-within T f i (omega arith), r .is))
 
-        pub item-passed : at + w ≤ c → Reached file index row k f s (i + 1) (at + w)
+        pub item-passed : at + w ≤ c → Reached file index rows k f s (i + 1) (at + w)
         unfolding firstClause sumTo
         item-passed b =
             record {
@@ -129,7 +130,7 @@ module _ (file index row : List ℕ) (k : ℕ) where
 
   -- ---- the steps of a family
 
-  module _ (f s at : ℕ) (r : Reached file index row k f s 0 at) (hf : f < familyCount) (m w : ℕ) (e : m ≡ stepsOf k f) (h : w ≡ stepClauses T f) where
+  module _ (f s at : ℕ) (r : Reached file index rows k f s 0 at) (hf : f < familyCount) (m w : ℕ) (e : m ≡ stepsOf k f) (h : w ≡ stepClauses T f) where
     pub step-there : s < m → s < stepsOf k f
     step-there l = omega arith
 
@@ -146,7 +147,7 @@ module _ (file index row : List ℕ) (k : ℕ) where
           further q c (at + stepClauses T f) (start + stepsOf k f * stepClauses T f) g (omega arith)
           (omega (arith, step-within T k f s (omega arith), zero-mul (stepClauses T f), r .is))
 
-      pub step-passed : at + w ≤ c → Reached file index row k f (s + 1) 0 (at + w)
+      pub step-passed : at + w ≤ c → Reached file index rows k f (s + 1) 0 (at + w)
       unfolding firstClause sumTo
       step-passed b =
           record {
@@ -168,11 +169,11 @@ module _ (file index row : List ℕ) (k : ℕ) where
 
   -- ---- the families
 
-  pub start-here : Indexed file index → k ≤ maxHorizon → Reached file index row k 0 0 0 0
+  pub start-here : Indexed file index → k ≤ maxHorizon → Reached file index rows k 0 0 0 0
   unfolding firstClause clausesBefore sumTo first
   start-here ix h = record { indexed = ix; low = h; is = omega (arith, zero-mul (stepClauses T 0)); none = refl }
 
-  module _ (f at : ℕ) (r : Reached file index row k f 0 0 at) where
+  module _ (f at : ℕ) (r : Reached file index rows k f 0 0 at) where
     at-family : at ≡ clausesBefore T k f
     unfolding firstClause sumTo
     at-family = omega (arith, zero-mul (stepClauses T f), r .is)
@@ -191,7 +192,7 @@ module _ (file index row : List ℕ) (k : ℕ) where
             further q c (at + stepsOf k f * stepClauses T f) (C (problemOf file k)) g (omega arith)
             (omega (arith, family-end T k f l, at-family))
 
-        pub family-passed : at + w ≤ c → Reached file index row k (f + 1) 0 0 (at + w)
+        pub family-passed : at + w ≤ c → Reached file index rows k (f + 1) 0 0 (at + w)
         unfolding firstClause sumTo
         family-passed b =
             record {

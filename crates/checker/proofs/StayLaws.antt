@@ -17,8 +17,8 @@ use Rattle.rules.specs.Limits.{maxHorizon, maxActions}
 use Rattle.rules.specs.Task.{Task, n, d, A, pair, action}
 use Rattle.rules.specs.Numbering.{actionNumber}
 use Rattle.rules.specs.Families.{plus, gives, supporters}
-use Rattle.rules.specs.Rows.{bitOfVariable}
-use Rattle.rules.specs.Truth.{literalTrue}
+use Rattle.rules.specs.Rows.{Rows}
+use Rattle.rules.specs.Truth.{literalTrue, modelIn}
 use Rattle.rules.specs.File.{taskOf}
 use Rattle.rules.specs.Calls.{problemOf}
 use Rattle.rules.proofs.Bools.{either, clash, and-both, same-truth, not-true, not-false, below-or}
@@ -26,11 +26,11 @@ use Rattle.rules.proofs.Counting.{first-le, first-before, first-at, first-is, f
 use Rattle.rules.proofs.Files.{accepted-well-formed}
 use Rattle.task.specs.Index.{Indexed}
 use Rattle.task.specs.Numbers.{atAnyHorizon}
-use Rattle.rows.specs.Bits.{setFrom}
+use Rattle.rows.specs.Bits.{countsTrue, setFrom}
 use Rattle.rows.specs.Bound.{mostVariables}
-use Rattle.checker.specs.Order.{holdsAt, actsAt, complete, isFalse, stepsOf, itemsOf, clausesOf, Come, valuesStay}
+use Rattle.checker.specs.Order.{holdsAt, actsAt, isFalse, stepsOf, itemsOf, clausesOf, Come, valuesStay}
 use Rattle.checker.specs.Staying.{effectIs, givesAt, supportsAt, supportedAt, changesAlone}
-use Rattle.checker.proofs.Clauses.{false-stay}
+use Rattle.checker.proofs.Clauses.{literal-plus, false-stay}
 use Rattle.checker.proofs.ItemLaws.{item-bound, pairs-more, pairs-found, pairs-all, actions-room}
 
 bools : (a : Bool) → (a || false) ≡ (a && true)
@@ -84,23 +84,23 @@ module _ (file : List ℕ) (a x v m p : ℕ) (e : p ≡ a) (h : m ≡ length (ac
 
 -- ---- a step that has such an action
 
-module _ (file row : List ℕ) (s x v : ℕ) where
+module _ (file : List ℕ) (rows : Rows) (s x v : ℕ) where
   abbrev T : Task
   T = taskOf file
 
   abbrev supports : ℕ → Bool
-  supports = supportsAt file row s x v
+  supports = supportsAt file rows s x v
 
-  not-supporting : (a : ℕ) → actsAt file row s a ≡ false → supports a ≡ false
+  not-supporting : (a : ℕ) → actsAt false file rows s a ≡ false → supports a ≡ false
   unfolding supportsAt
   not-supporting a f = ap (λ b. b && givesAt file x v a) f
 
   module _ (m a from : ℕ) (g : m ≡ A T) (none : first a supports ≡ a) (e : from ≡ actionNumber (atAnyHorizon file) s 0) where
-    set-later : (j : ℕ) → setFrom row (from + a) j ≡ actsAt file row s (a + j)
+    set-later : (j : ℕ) → setFrom (countsTrue false rows) (from + a) j ≡ actsAt false file rows s (a + j)
     unfolding setFrom actsAt actionNumber
-    set-later j = ap (bitOfVariable row) (omega arith)
+    set-later j = ap (countsTrue false rows) (omega arith)
 
-    module _ (r : ℕ) (h : r ≡ first (m - a) (setFrom row (from + a))) where
+    module _ (r : ℕ) (h : r ≡ first (m - a) (setFrom (countsTrue false rows) (from + a))) where
       -- none below the next true action
       none-yet-to : (t : ℕ) → t ≤ a + r → first t supports ≡ t
       none-yet-to t l =
@@ -109,17 +109,17 @@ module _ (file row : List ℕ) (s x v : ℕ) where
           (λ u.
           let z : j ≡ a + (j - a) = omega arith in
           ap supports z
-          ∙ not-supporting (a + (j - a)) (sym (set-later (j - a)) ∙ first-before (m - a) (setFrom row (from + a)) (j - a) (omega arith)))
+          ∙ not-supporting (a + (j - a)) (sym (set-later (j - a)) ∙ first-before (m - a) (setFrom (countsTrue false rows) (from + a)) (j - a) (omega arith)))
           (below-or j a))
 
-      pub support-none : m ≤ a + r → false ≡ supportedAt file row s x v
+      pub support-none : m ≤ a + r → false ≡ supportedAt file rows s x v
       unfolding supportedAt
       support-none l = sym (le-ltb (first (A T) supports) (A T) (omega (arith, none-yet-to (A T) (omega arith))))
 
-      acting : a + r < m → actsAt file row s (a + r) ≡ true
-      acting l = sym (set-later r) ∙ ap (setFrom row (from + a)) h ∙ first-at (m - a) (setFrom row (from + a)) (omega arith)
+      acting : a + r < m → actsAt false file rows s (a + r) ≡ true
+      acting l = sym (set-later r) ∙ ap (setFrom (countsTrue false rows) (from + a)) h ∙ first-at (m - a) (setFrom (countsTrue false rows) (from + a)) (omega arith)
 
-      pub support-found : (b : Bool) → a + r < m → b ≡ givesAt file x v (a + r) → b ≡ true → true ≡ supportedAt file row s x v
+      pub support-found : (b : Bool) → a + r < m → b ≡ givesAt file x v (a + r) → b ≡ true → true ≡ supportedAt file rows s x v
       unfolding supportedAt supportsAt
       support-found b l f t =
           sym (lt-ltb (first (A T) supports) (A T)
@@ -139,11 +139,11 @@ module _ (file row : List ℕ) (s x v : ℕ) where
               first-none (t + 1) supports (λ j u.
               ⊎-elim (λ w. first-before t supports j (omega arith)) (λ w. let z : j ≡ t = omega arith in ap supports z ∙ f) (below-or j t))
 
-  -- the part of the row from action a on
+  -- the part of the rows from action a on
   module _ (index : List ℕ) (ix : Indexed file index) (low : s ≤ maxHorizon) (m a from : ℕ) (g : m ≡ A T) (l : a < m)
       (e : from ≡ actionNumber (atAnyHorizon file) s 0) where
     room : from + m < mostVariables
-    room = actions-room file index row 0 ix s from low m e g
+    room = actions-room file index rows 0 ix s from low m e g
 
     pub from-fits : Fits w64 (from + a)
     from-fits = record { fits = omega (arith, room) }
@@ -171,56 +171,56 @@ module _ (file row : List ℕ) (s x v : ℕ) where
     pub later-fits : Fits w64 (a + r + 1)
     later-fits = record { fits = omega (arith, few) }
 
-  pub support-end : (m a : ℕ) → m ≡ A T → first a supports ≡ a → m ≤ a → false ≡ supportedAt file row s x v
+  pub support-end : (m a : ℕ) → m ≡ A T → first a supports ≡ a → m ≤ a → false ≡ supportedAt file rows s x v
   unfolding supportedAt
   support-end m a g none l =
       sym (le-ltb (first (A T) supports) (A T)
       (omega (arith, first-none (A T) supports (λ j b. first-before a supports j (omega arith)))))
 
   -- the supporters' literals are true together with that
-  supporter : (k a : ℕ) (b : Bool) → any (literalTrue (complete row)) (when b (plus (actionNumber (problemOf file k) s a) ∷ [])) ≡ (actsAt file row s a && b)
-  unfolding any literalTrue actsAt actionNumber problemOf
-  supporter k a true = bools (actsAt file row s a)
-  supporter k a false = nothing (actsAt file row s a)
+  supporter : (k a : ℕ) (b : Bool) → any (literalTrue (modelIn rows)) (when b (plus (actionNumber (problemOf file k) s a) ∷ [])) ≡ (actsAt false file rows s a && b)
+  unfolding any actsAt actionNumber problemOf
+  supporter k a true = ap (λ b. b || false) (literal-plus rows (actionNumber (problemOf file k) s a)) ∙ bools (actsAt false file rows s a)
+  supporter k a false = nothing (actsAt false file rows s a)
 
-  supporters-are : (k : ℕ) → any (literalTrue (complete row)) (supporters (problemOf file k) s x v) ≡ supportedAt file row s x v
+  supporters-are : (k : ℕ) → any (literalTrue (modelIn rows)) (supporters (problemOf file k) s x v) ≡ supportedAt file rows s x v
   unfolding supporters supportedAt supportsAt givesAt problemOf
   supporters-are k =
       same-truth _ _
       (λ t.
-      let w = one-of (literalTrue (complete row)) (A T) _ t in
+      let w = one-of (literalTrue (modelIn rows)) (A T) _ t in
       ⊎-elim (λ l. lt-ltb (first (A T) supports) (A T) l)
       (λ l. clash (sym (supporter k (w .0) (givesAt file x v (w .0))) ∙ w .2) (first-before (A T) supports (w .0) (omega arith)))
       (below-or (first (A T) supports) (A T)))
       (λ t.
       let l : first (A T) supports < A T = ltb-true (first (A T) supports) (A T) t in
-      any-forEach (literalTrue (complete row)) (A T) _ (first (A T) supports) l
+      any-forEach (literalTrue (modelIn rows)) (A T) _ (first (A T) supports) l
       (supporter k (first (A T) supports) (givesAt file x v (first (A T) supports)) ∙ first-at (A T) supports l))
 
 -- ---- a value that changes alone
 
-module _ (file row : List ℕ) (s x v : ℕ) (b : Bool) (e : b ≡ holdsAt file row (s + 1) x v) where
-  later : holdsAt file row (suc s) x v ≡ b
-  later = ap (λ t. holdsAt file row t x v) (sym (add-one s)) ∙ sym e
+module _ (file : List ℕ) (rows : Rows) (s x v : ℕ) (b : Bool) (e : b ≡ holdsAt true file rows (s + 1) x v) where
+  later : holdsAt true file rows (suc s) x v ≡ b
+  later = ap (λ t. holdsAt true file rows t x v) (sym (add-one s)) ∙ sym e
 
-  pub not-later : not b ≡ true → false ≡ changesAlone file row s x v
+  pub not-later : not b ≡ true → false ≡ changesAlone file rows s x v
   unfolding changesAlone
-  not-later z = sym (ap (λ a. a && (not (holdsAt file row s x v) && not (supportedAt file row s x v))) (later ∙ not-true b z))
+  not-later z = sym (ap (λ a. a && (not (holdsAt false file rows s x v) && not (supportedAt file rows s x v))) (later ∙ not-true b z))
 
-  module _ (z : not b ≡ false) (c : Bool) (f : c ≡ holdsAt file row s x v) where
-    from-here : changesAlone file row s x v ≡ (not c && not (supportedAt file row s x v))
+  module _ (z : not b ≡ false) (c : Bool) (f : c ≡ holdsAt false file rows s x v) where
+    from-here : changesAlone file rows s x v ≡ (not c && not (supportedAt file rows s x v))
     unfolding changesAlone
-    from-here = ap₂ (λ a c. a && (not c && not (supportedAt file row s x v))) (later ∙ not-false b z) (sym f)
+    from-here = ap₂ (λ a c. a && (not c && not (supportedAt file rows s x v))) (later ∙ not-false b z) (sym f)
 
-    pub already : c ≡ true → false ≡ changesAlone file row s x v
-    already t = sym (from-here ∙ ap (λ c. not c && not (supportedAt file row s x v)) t)
+    pub already : c ≡ true → false ≡ changesAlone file rows s x v
+    already t = sym (from-here ∙ ap (λ c. not c && not (supportedAt file rows s x v)) t)
 
-    pub changed : (g : Bool) → c ≡ false → g ≡ supportedAt file row s x v → not g ≡ changesAlone file row s x v
-    changed g t h = ap not h ∙ sym (from-here ∙ ap (λ c. not c && not (supportedAt file row s x v)) t)
+    pub changed : (g : Bool) → c ≡ false → g ≡ supportedAt file rows s x v → not g ≡ changesAlone file rows s x v
+    changed g t h = ap not h ∙ sym (from-here ∙ ap (λ c. not c && not (supportedAt file rows s x v)) t)
 
 -- ---- a variable's values
 
-module _ (file index row : List ℕ) (k s x at : ℕ) (c : Come file index row k valuesStay s x at) where
+module _ (file index : List ℕ) (rows : Rows) (k s x at : ℕ) (c : Come file index rows k valuesStay s x at) where
   pub stay-item : x < n (taskOf file)
   unfolding itemsOf
   stay-item = c .item
@@ -235,25 +235,25 @@ module _ (file index row : List ℕ) (k s x at : ℕ) (c : Come file index row k
     stay-count = h
 
     pub stay-fits : (v : ℕ) → v ≤ m → Fits w64 (at + v)
-    stay-fits v l = record { fits = omega (arith, stay-count, item-bound file index row k valuesStay s x at c) }
+    stay-fits v l = record { fits = omega (arith, stay-count, item-bound file index rows k valuesStay s x at c) }
 
     pub stay-there : (v : ℕ) → v < m → v < d (taskOf file) x
     stay-there v l = omega arith
 
-    pub stay-all : (v : ℕ) → first (at + v) (isFalse file k row) ≡ at + v → v ≤ m → m ≤ v
-        → at + m ≡ first (at + clausesOf (taskOf file) valuesStay x) (isFalse file k row)
-    stay-all v none l u = pairs-all (isFalse file k row) at v none m (clausesOf (taskOf file) valuesStay x) l u stay-count
+    pub stay-all : (v : ℕ) → first (at + v) (isFalse file k rows) ≡ at + v → v ≤ m → m ≤ v
+        → at + m ≡ first (at + clausesOf (taskOf file) valuesStay x) (isFalse file k rows)
+    stay-all v none l u = pairs-all (isFalse file k rows) at v none m (clausesOf (taskOf file) valuesStay x) l u stay-count
 
-    module _ (v : ℕ) (none : first (at + v) (isFalse file k row) ≡ at + v) (l : v < m) (b : Bool) (e : b ≡ changesAlone file row s x v) where
-      stay-is : isFalse file k row (at + v) ≡ b
+    module _ (v : ℕ) (none : first (at + v) (isFalse file k rows) ≡ at + v) (l : v < m) (b : Bool) (e : b ≡ changesAlone file rows s x v) where
+      stay-is : isFalse file k rows (at + v) ≡ b
       unfolding changesAlone
       stay-is =
-          false-stay file row k s x at v (c .step) (c .item) (c .reached .is) (omega (arith, stay-count))
-          ∙ ap (λ g. holdsAt file row (suc s) x v && (not (holdsAt file row s x v) && not g)) (supporters-are file row s x v k)
+          false-stay file rows k s x at v (c .step) (c .item) (c .reached .is) (omega (arith, stay-count))
+          ∙ ap (λ g. holdsAt true file rows (suc s) x v && (not (holdsAt false file rows s x v) && not g)) (supporters-are file rows s x v k)
           ∙ sym e
 
-      pub stay-fails : b ≡ true → at + v ≡ first (at + clausesOf (taskOf file) valuesStay x) (isFalse file k row)
-      stay-fails t = pairs-found (isFalse file k row) at v none (clausesOf (taskOf file) valuesStay x) (omega (arith, stay-count)) (stay-is ∙ t)
+      pub stay-fails : b ≡ true → at + v ≡ first (at + clausesOf (taskOf file) valuesStay x) (isFalse file k rows)
+      stay-fails t = pairs-found (isFalse file k rows) at v none (clausesOf (taskOf file) valuesStay x) (omega (arith, stay-count)) (stay-is ∙ t)
 
-      pub stay-again : b ≡ false → first (at + (v + 1)) (isFalse file k row) ≡ at + (v + 1)
-      stay-again t = pairs-more (isFalse file k row) at v none (stay-is ∙ t)
+      pub stay-again : b ≡ false → first (at + (v + 1)) (isFalse file k rows) ≡ at + (v + 1)
+      stay-again t = pairs-more (isFalse file k rows) at v none (stay-is ∙ t)

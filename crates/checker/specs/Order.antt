@@ -1,42 +1,45 @@
 -- The order in which the checker goes through the clauses: family by family, in each step by step, in each item by item: a variable, a goal
--- pair or an action. All variables are given by then, so a literal's truth is its variable's bit.
+-- pair or an action. A positive literal is true where its variable counts as true and unnamed ones count as false; a negative one is true where its
+-- variable counts as false and unnamed ones count as true.
 -- Assumes nothing.
 use Prim.Native.Nat.{ℕ, suc, _+_, _*_, _≤_, _<_}
 use mathlib.Core.Path.{_≡_}
-use mathlib.Core.Bool.{Bool, true, not, _&&_}
+use mathlib.Core.Bool.{Bool, false, not, _&&_}
 use mathlib.Core.List.{List, [], _∷_}
 use lib.ListN.{length, getD}
 use Rattle.rules.specs.Counting.{sumTo, first}
 use Rattle.rules.specs.Limits.{maxHorizon}
-use Rattle.rules.specs.Task.{Task, n, d, A, action}
+use Rattle.rules.specs.Task.{Pair, Task, n, d, A, action}
 use Rattle.rules.specs.Numbering.{valueNumber, actionNumber}
 use Rattle.rules.specs.Families.{clause}
 use Rattle.rules.specs.Counts.{pairsBelow}
-use Rattle.rules.specs.Rows.{bitOfVariable}
-use Rattle.rules.specs.Truth.{Model, clauseTrue}
+use Rattle.rules.specs.Rows.{Rows}
+use Rattle.rules.specs.Truth.{clauseTrue, modelIn}
 use Rattle.rules.specs.File.{taskOf}
 use Rattle.rules.specs.Calls.{problemOf}
 use Rattle.rules.proofs.ByNumber.{clausesBefore}
 use Rattle.rules.proofs.Pairs.{PairAt}
 use Rattle.task.specs.Index.{Indexed}
 use Rattle.task.specs.Numbers.{atAnyHorizon}
+use Rattle.rows.specs.Bits.{countsTrue}
 
 -- ---- the bits
 
--- value v of variable x is true at step s
-unfoldable pub holdsAt : (file row : List ℕ) → ℕ → ℕ → ℕ → Bool
-holdsAt file row s x v = bitOfVariable row (valueNumber (atAnyHorizon file) s x v)
+-- value v of variable x counts as true at step s, where unnamed variables count as `unnamed`
+unfoldable pub holdsAt : (unnamed : Bool) (file : List ℕ) → Rows → ℕ → ℕ → ℕ → Bool
+holdsAt unnamed file rows s x v = countsTrue unnamed rows (valueNumber (atAnyHorizon file) s x v)
 
--- action a is true at step s
-unfoldable pub actsAt : (file row : List ℕ) → ℕ → ℕ → Bool
-actsAt file row s a = bitOfVariable row (actionNumber (atAnyHorizon file) s a)
+-- a pair is named to hold at step s
+unfoldable pub pairAt : (file : List ℕ) → Rows → ℕ → Pair → Bool
+pairAt file rows s p = holdsAt false file rows s (p .variable) (p .value)
 
--- the model that gives every variable, and makes true those of the row
-abbrev pub complete : List ℕ → Model
-complete row = record { given = λ v. true; isTrue = bitOfVariable row }
+-- action a counts as true at step s
+unfoldable pub actsAt : (unnamed : Bool) (file : List ℕ) → Rows → ℕ → ℕ → Bool
+actsAt unnamed file rows s a = countsTrue unnamed rows (actionNumber (atAnyHorizon file) s a)
 
-unfoldable pub isFalse : (file : List ℕ) (k : ℕ) (row : List ℕ) → ℕ → Bool
-isFalse file k row c = not (clauseTrue (complete row) (clause (problemOf file k) c))
+-- clause c has no true literal among those named
+unfoldable pub isFalse : (file : List ℕ) (k : ℕ) → Rows → ℕ → Bool
+isFalse file k rows c = not (clauseTrue (modelIn rows) (clause (problemOf file k) c))
 
 -- ---- the families, from 0
 
@@ -100,15 +103,15 @@ unfoldable pub firstClause : Task → (k f s i : ℕ) → ℕ
 firstClause T k f s i = clausesBefore T k f + (s * stepClauses T f + sumTo i (clausesOf T f))
 
 -- the search has come to item i of step s of family f, and found nothing false before it
-pub record Reached (file index row : List ℕ) (k f s i at : ℕ) : Type 0 where
+pub record Reached (file index : List ℕ) (rows : Rows) (k f s i at : ℕ) : Type 0 where
   pub indexed : Indexed file index
   pub low : k ≤ maxHorizon
   pub is : at ≡ firstClause (taskOf file) k f s i
-  pub none : first at (isFalse file k row) ≡ at
+  pub none : first at (isFalse file k rows) ≡ at
 
 -- and the step and the item are there
-pub record Come (file index row : List ℕ) (k f s i at : ℕ) : Type 0 where
-  pub reached : Reached file index row k f s i at
+pub record Come (file index : List ℕ) (rows : Rows) (k f s i at : ℕ) : Type 0 where
+  pub reached : Reached file index rows k f s i at
   pub family : f < familyCount
   pub step : s < stepsOf k f
   pub item : i < itemsOf (taskOf file) f

@@ -1,5 +1,5 @@
-// What the row of a model that gives every variable says of a step.
-use rows::is_set;
+// What both rows of a model say of a step.
+use rows::counts_true;
 use task::numbering::ValuePlace;
 use task::numbering::action_number;
 use task::numbering::nth_action;
@@ -14,39 +14,62 @@ ghost use Rattle.rules.specs.Numbering.{valueNumber, actionNumber};
 ghost use Rattle.rules.specs.File.{taskOf};
 ghost use Rattle.task.specs.Index.{Indexed};
 ghost use Rattle.task.specs.Numbers.{atAnyHorizon};
+ghost use Rattle.rows.specs.Lent.{lent};
 ghost use Rattle.checker.specs.Order.{holdsAt, actsAt};
 
-// A variable has a value at a step.
-pub fn pair_holds(file: &[u8], index: &[usize], row: &[u64], step: usize, place: ValuePlace) -> bool
+// What a variable that is not named counts as in a positive literal and in a negative one, so that neither is true.
+pub const UNNAMED_IN_POSITIVE: bool = false;
+
+pub const UNNAMED_IN_NEGATIVE: bool = true;
+
+// A variable counts as having a value at a step.
+pub fn pair_holds(
+    file: &[u8],
+    index: &[usize],
+    given: &[u64],
+    truth: &[u64],
+    unnamed: bool,
+    step: usize,
+    place: ValuePlace,
+) -> bool
     requires { ⌜ Indexed (now file) (now index) × (step ≤ maxHorizon) × (place .0 < n (taskOf (now file))) × (place .1 < d (taskOf (now file)) (place .0)) ⌝ }
-    ensures { λ r. ⌜ r ≡ holdsAt (now (file .entry)) (now (row .entry)) step (place .0) (place .1) ⌝ }
+    ensures { λ r. ⌜ r ≡ holdsAt unnamed (now (file .entry)) (lent (now (given .entry)) (now (truth .entry))) step (place .0) (place .1) ⌝ }
 {
-    is_set(row, number_of(value_number(file, index, step, place)))
+    let number = number_of(value_number(file, index, step, place));
+    counts_true(given, truth, unnamed, number)
 }
 
 pub fn value_holds(
     file: &[u8],
     index: &[usize],
-    row: &[u64],
+    given: &[u64],
+    truth: &[u64],
+    unnamed: bool,
     step: usize,
     x: usize,
     v: usize,
 ) -> bool
     requires { ⌜ Indexed (now file) (now index) × (step ≤ maxHorizon) × (x < n (taskOf (now file))) × (v < d (taskOf (now file)) x) ⌝ }
-    ensures { λ r. ⌜ r ≡ holdsAt (now (file .entry)) (now (row .entry)) step x v ⌝ }
+    ensures { λ r. ⌜ r ≡ holdsAt unnamed (now (file .entry)) (lent (now (given .entry)) (now (truth .entry))) step x v ⌝ }
 {
-    pair_holds(file, index, row, step, value_place(x, v))
+    pair_holds(file, index, given, truth, unnamed, step, value_place(x, v))
 }
 
-// An action is true at a step.
-pub fn acts(file: &[u8], index: &[usize], row: &[u64], step: usize, a: usize) -> bool
+// An action counts as true at a step.
+pub fn acts(
+    file: &[u8],
+    index: &[usize],
+    given: &[u64],
+    truth: &[u64],
+    unnamed: bool,
+    step: usize,
+    a: usize,
+) -> bool
     requires { ⌜ Indexed (now file) (now index) × (step ≤ maxHorizon) × (a < actionCount (taskOf (now file))) ⌝ }
-    ensures { λ r. ⌜ r ≡ actsAt (now (file .entry)) (now (row .entry)) step a ⌝ }
+    ensures { λ r. ⌜ r ≡ actsAt unnamed (now (file .entry)) (lent (now (given .entry)) (now (truth .entry))) step a ⌝ }
 {
-    is_set(
-        row,
-        number_of(action_number(file, index, step, nth_action(a))),
-    )
+    let number = number_of(action_number(file, index, step, nth_action(a)));
+    counts_true(given, truth, unnamed, number)
 }
 
 // The number of a variable's first value at a step.

@@ -1,8 +1,7 @@
-// The end of a reading: refusals 1 to 8 and 10, then 15, 18, 19 and 15 by the status, 16 and 17; an accepted model becomes its schedule.
+// The end of a reading: refusals 1 to 8 and 10, then 15, 18, 19 and 15 by the status, and 17; an accepted model becomes its schedule.
 use crate::schedule::write_schedule;
 use crate::search::all_clauses;
 use crate::search::lowest_false;
-use rows::first_unset;
 use rows::words_for;
 use rules::Phase;
 use rules::Reading;
@@ -38,7 +37,7 @@ fn status_verdict(phase: Phase) -> Verdict
     }
 }
 
-// Refusals 16 and 17.
+// Refusal 17.
 fn model_verdict(
     file: &[u8],
     index: &[usize],
@@ -49,12 +48,7 @@ fn model_verdict(
     requires { ⌜ Indexed (now file) (now index) × (horizon ≤ maxHorizon) ⌝ }
     ensures { λ r. ⌜ r ≡ judge (modelRules (problemOf (now (file .entry)) horizon) (lent (now (given .entry)) (now (truth .entry)))) ⌝ }
 {
-    let variables = count_variables(file, index, horizon);
-    let missing = first_unset(given, variables);
-    if missing < variables {
-        return Verdict::Refused(Refusal::NotGiven(missing + 1));
-    }
-    let lowest = lowest_false(file, index, horizon, truth);
+    let lowest = lowest_false(file, index, horizon, given, truth);
     if lowest < all_clauses(file, index, horizon) {
         return Verdict::Refused(Refusal::FalseClause(lowest));
     }
@@ -129,6 +123,6 @@ pub fn finish(
     let Verdict::Accepted = verdict else {
         return verdict;
     };
-    write_schedule(file, &index, horizon, truth, entries);
+    write_schedule(file, &index, horizon, given, truth, entries);
     Verdict::Accepted
 }

@@ -1,4 +1,7 @@
-// The lowest false clause of one item, family by family: where none is false, the number of the clause behind the item's last.
+// The lowest clause of one item without a true literal among those named, family by family: where each has one, the number of the clause behind the
+// item's last.
+use crate::bits::UNNAMED_IN_NEGATIVE;
+use crate::bits::UNNAMED_IN_POSITIVE;
 use crate::bits::acts;
 use crate::bits::first_action;
 use crate::bits::first_value;
@@ -23,21 +26,24 @@ ghost use Rattle.rules.specs.Task.{A as actionCount, pair, action};
 ghost use Rattle.task.specs.Index.{Indexed};
 ghost use Rattle.rules.specs.Counting.{first};
 ghost use Rattle.rules.specs.File.{taskOf};
-ghost use Rattle.checker.specs.Order.{holdsAt, isFalse, clausesOf, Come, startValues, goalPairs, someValue, twoValues, preconditionsHold, effectsHold, twoActions};
+ghost use Rattle.rows.specs.Lent.{lent};
+ghost use Rattle.checker.specs.Order.{pairAt, isFalse, clausesOf, Come, startValues, goalPairs, someValue, twoValues, preconditionsHold, effectsHold, twoActions};
 
 // A variable has its start value at the first step.
 pub fn start_clause(
     file: &[u8],
     index: &[usize],
     horizon: usize,
-    row: &[u64],
+    given: &[u64],
+    truth: &[u64],
     x: usize,
     at: usize,
 ) -> usize
-    requires { ⌜ Come (now file) (now index) (now row) horizon startValues 0 x at ⌝ }
-    ensures { λ r. ⌜ r ≡ first (at + clausesOf (taskOf (now (file .entry))) startValues x) (isFalse (now (file .entry)) horizon (now (row .entry))) ⌝ }
+    requires { ⌜ Come (now file) (now index) (lent (now given) (now truth)) horizon startValues 0 x at ⌝ }
+    ensures { λ r. ⌜ r ≡ first (at + clausesOf (taskOf (now (file .entry))) startValues x) (isFalse (now (file .entry)) horizon (lent (now (given .entry)) (now (truth .entry)))) ⌝ }
 {
-    if value_holds(file, index, row, 0, x, start_value(file, x)) {
+    let value = start_value(file, x);
+    if value_holds(file, index, given, truth, UNNAMED_IN_POSITIVE, 0, x, value) {
         return at + 1;
     }
     at
@@ -48,14 +54,24 @@ pub fn goal_clause(
     file: &[u8],
     index: &[usize],
     horizon: usize,
-    row: &[u64],
+    given: &[u64],
+    truth: &[u64],
     i: usize,
     at: usize,
 ) -> usize
-    requires { ⌜ Come (now file) (now index) (now row) horizon goalPairs 0 i at ⌝ }
-    ensures { λ r. ⌜ r ≡ first (at + clausesOf (taskOf (now (file .entry))) goalPairs i) (isFalse (now (file .entry)) horizon (now (row .entry))) ⌝ }
+    requires { ⌜ Come (now file) (now index) (lent (now given) (now truth)) horizon goalPairs 0 i at ⌝ }
+    ensures { λ r. ⌜ r ≡ first (at + clausesOf (taskOf (now (file .entry))) goalPairs i) (isFalse (now (file .entry)) horizon (lent (now (given .entry)) (now (truth .entry)))) ⌝ }
 {
-    if pair_holds(file, index, row, horizon, goal_pair(file, i)) {
+    let pair = goal_pair(file, i);
+    if pair_holds(
+        file,
+        index,
+        given,
+        truth,
+        UNNAMED_IN_POSITIVE,
+        horizon,
+        pair,
+    ) {
         return at + 1;
     }
     at
@@ -66,16 +82,18 @@ pub fn some_value_clause(
     file: &[u8],
     index: &[usize],
     horizon: usize,
-    row: &[u64],
+    given: &[u64],
+    truth: &[u64],
     step: usize,
     x: usize,
     at: usize,
 ) -> usize
-    requires { ⌜ Come (now file) (now index) (now row) horizon someValue step x at ⌝ }
-    ensures { λ r. ⌜ r ≡ first (at + clausesOf (taskOf (now (file .entry))) someValue x) (isFalse (now (file .entry)) horizon (now (row .entry))) ⌝ }
+    requires { ⌜ Come (now file) (now index) (lent (now given) (now truth)) horizon someValue step x at ⌝ }
+    ensures { λ r. ⌜ r ≡ first (at + clausesOf (taskOf (now (file .entry))) someValue x) (isFalse (now (file .entry)) horizon (lent (now (given .entry)) (now (truth .entry)))) ⌝ }
 {
     let values = size(file, x);
-    if first_set(row, first_value(file, index, step, x), values) < values {
+    let from = first_value(file, index, step, x);
+    if first_set(given, truth, UNNAMED_IN_POSITIVE, from, values) < values {
         return at + 1;
     }
     at
@@ -86,33 +104,38 @@ pub fn two_values_clauses(
     file: &[u8],
     index: &[usize],
     horizon: usize,
-    row: &[u64],
+    given: &[u64],
+    truth: &[u64],
     step: usize,
     x: usize,
     at: usize,
 ) -> usize
-    requires { ⌜ Come (now file) (now index) (now row) horizon twoValues step x at ⌝ }
-    ensures { λ r. ⌜ r ≡ first (at + clausesOf (taskOf (now (file .entry))) twoValues x) (isFalse (now (file .entry)) horizon (now (row .entry))) ⌝ }
+    requires { ⌜ Come (now file) (now index) (lent (now given) (now truth)) horizon twoValues step x at ⌝ }
+    ensures { λ r. ⌜ r ≡ first (at + clausesOf (taskOf (now (file .entry))) twoValues x) (isFalse (now (file .entry)) horizon (lent (now (given .entry)) (now (truth .entry)))) ⌝ }
 {
-    at + first_pair(row, first_value(file, index, step, x), size(file, x))
+    let from = first_value(file, index, step, x);
+    at + first_pair(given, truth, from, size(file, x))
 }
 
 // Pair i of an action's preconditions holds at a step.
 fn precondition_holds(
     file: &[u8],
     index: &[usize],
-    row: &[u64],
+    given: &[u64],
+    truth: &[u64],
     step: usize,
     a: usize,
     i: usize,
 ) -> bool
     requires { ⌜ Indexed (now file) (now index) × (step ≤ maxHorizon) × (a < actionCount (taskOf (now file))) × (i < length (action (taskOf (now file)) a .preconditions)) ⌝ }
-    ensures { λ r. ⌜ r ≡ holdsAt (now (file .entry)) (now (row .entry)) step (pair (action (taskOf (now (file .entry))) a .preconditions) i .variable) (pair (action (taskOf (now (file .entry))) a .preconditions) i .value) ⌝ }
+    ensures { λ r. ⌜ r ≡ pairAt (now (file .entry)) (lent (now (given .entry)) (now (truth .entry))) step (pair (action (taskOf (now (file .entry))) a .preconditions) i) ⌝ }
 {
     pair_holds(
         file,
         index,
-        row,
+        given,
+        truth,
+        UNNAMED_IN_POSITIVE,
         step,
         precondition(file, index, nth_action(a), i),
     )
@@ -123,21 +146,22 @@ pub fn precondition_clauses(
     file: &[u8],
     index: &[usize],
     horizon: usize,
-    row: &[u64],
+    given: &[u64],
+    truth: &[u64],
     step: usize,
     a: usize,
     at: usize,
 ) -> usize
-    requires { ⌜ Come (now file) (now index) (now row) horizon preconditionsHold step a at ⌝ }
-    ensures { λ r. ⌜ r ≡ first (at + clausesOf (taskOf (now (file .entry))) preconditionsHold a) (isFalse (now (file .entry)) horizon (now (row .entry))) ⌝ }
+    requires { ⌜ Come (now file) (now index) (lent (now given) (now truth)) horizon preconditionsHold step a at ⌝ }
+    ensures { λ r. ⌜ r ≡ first (at + clausesOf (taskOf (now (file .entry))) preconditionsHold a) (isFalse (now (file .entry)) horizon (lent (now (given .entry)) (now (truth .entry)))) ⌝ }
 {
     let count = precondition_count(file, index, nth_action(a));
-    if !acts(file, index, row, step, a) {
+    if !acts(file, index, given, truth, UNNAMED_IN_NEGATIVE, step, a) {
         return at + count;
     }
     let mut i = 0;
     while i < count {
-        if !precondition_holds(file, index, row, step, a, i) {
+        if !precondition_holds(file, index, given, truth, step, a, i) {
             return at + i;
         }
         i += 1;
@@ -146,14 +170,24 @@ pub fn precondition_clauses(
 }
 
 // Pair i of an action's effects holds at a step.
-fn effect_holds(file: &[u8], index: &[usize], row: &[u64], step: usize, a: usize, i: usize) -> bool
+fn effect_holds(
+    file: &[u8],
+    index: &[usize],
+    given: &[u64],
+    truth: &[u64],
+    step: usize,
+    a: usize,
+    i: usize,
+) -> bool
     requires { ⌜ Indexed (now file) (now index) × (step ≤ maxHorizon) × (a < actionCount (taskOf (now file))) × (i < length (action (taskOf (now file)) a .effects)) ⌝ }
-    ensures { λ r. ⌜ r ≡ holdsAt (now (file .entry)) (now (row .entry)) step (pair (action (taskOf (now (file .entry))) a .effects) i .variable) (pair (action (taskOf (now (file .entry))) a .effects) i .value) ⌝ }
+    ensures { λ r. ⌜ r ≡ pairAt (now (file .entry)) (lent (now (given .entry)) (now (truth .entry))) step (pair (action (taskOf (now (file .entry))) a .effects) i) ⌝ }
 {
     pair_holds(
         file,
         index,
-        row,
+        given,
+        truth,
+        UNNAMED_IN_POSITIVE,
         step,
         effect(file, index, nth_action(a), i),
     )
@@ -164,21 +198,22 @@ pub fn effect_clauses(
     file: &[u8],
     index: &[usize],
     horizon: usize,
-    row: &[u64],
+    given: &[u64],
+    truth: &[u64],
     step: usize,
     a: usize,
     at: usize,
 ) -> usize
-    requires { ⌜ Come (now file) (now index) (now row) horizon effectsHold step a at ⌝ }
-    ensures { λ r. ⌜ r ≡ first (at + clausesOf (taskOf (now (file .entry))) effectsHold a) (isFalse (now (file .entry)) horizon (now (row .entry))) ⌝ }
+    requires { ⌜ Come (now file) (now index) (lent (now given) (now truth)) horizon effectsHold step a at ⌝ }
+    ensures { λ r. ⌜ r ≡ first (at + clausesOf (taskOf (now (file .entry))) effectsHold a) (isFalse (now (file .entry)) horizon (lent (now (given .entry)) (now (truth .entry)))) ⌝ }
 {
     let count = effect_count(file, index, nth_action(a));
-    if !acts(file, index, row, step, a) {
+    if !acts(file, index, given, truth, UNNAMED_IN_NEGATIVE, step, a) {
         return at + count;
     }
     let mut i = 0;
     while i < count {
-        if !effect_holds(file, index, row, step + 1, a, i) {
+        if !effect_holds(file, index, given, truth, step + 1, a, i) {
             return at + i;
         }
         i += 1;
@@ -191,16 +226,17 @@ pub fn two_actions_clauses(
     file: &[u8],
     index: &[usize],
     horizon: usize,
-    row: &[u64],
+    given: &[u64],
+    truth: &[u64],
     step: usize,
     at: usize,
 ) -> usize
-    requires { ⌜ Come (now file) (now index) (now row) horizon twoActions step 0 at ⌝ }
-    ensures { λ r. ⌜ r ≡ first (at + clausesOf (taskOf (now (file .entry))) twoActions 0) (isFalse (now (file .entry)) horizon (now (row .entry))) ⌝ }
+    requires { ⌜ Come (now file) (now index) (lent (now given) (now truth)) horizon twoActions step 0 at ⌝ }
+    ensures { λ r. ⌜ r ≡ first (at + clausesOf (taskOf (now (file .entry))) twoActions 0) (isFalse (now (file .entry)) horizon (lent (now (given .entry)) (now (truth .entry)))) ⌝ }
 {
     let count = actions(file, index);
     if count == 0 {
         return at;
     }
-    at + first_pair(row, first_action(file, index, step), count)
+    at + first_pair(given, truth, first_action(file, index, step), count)
 }

@@ -1,4 +1,5 @@
-// How many bits are set, the first of them, the first two, and the number of their pair.
+// The first variable of a stretch that counts as true, the first two, and the number of their pair.
+use crate::bits::UNNAMED_IN_NEGATIVE;
 use rows::count_set;
 use rows::first_set;
 ghost use mathlib.Core.Path.{_≡_};
@@ -6,7 +7,9 @@ ghost use Prim.Native.Nat.{_+_, _<_, _≤_};
 ghost use Rattle.rules.specs.Counting.{first};
 ghost use Rattle.rules.specs.Limits.{maxActions};
 ghost use Rattle.rules.specs.Counts.{pairsBelow};
-ghost use Rattle.rows.specs.Bits.{setFrom};
+ghost use mathlib.Core.Bool.{true};
+ghost use Rattle.rows.specs.Bits.{countsTrue, setFrom};
+ghost use Rattle.rows.specs.Lent.{lent};
 ghost use Rattle.rows.specs.Bound.{mostVariables};
 ghost use Rattle.rows.specs.Stretch.{countSet};
 ghost use Rattle.checker.specs.Order.{FirstPair};
@@ -22,23 +25,24 @@ pub fn pairs_below(m: usize) -> usize
     m * (m - 1) / 2
 }
 
-// The first set bit of a stretch in which some bit is set.
-pub fn first_of_some(row: &[u64], from: usize, m: usize) -> usize
-    requires { ⌜ (0 < from) × (from + m < mostVariables) × (0 < countSet (now row) from m) ⌝ }
-    ensures { λ r. ⌜ (r ≡ first m (setFrom (now (row .entry)) from)) × (r < m) ⌝ }
+// The first of a stretch in which some variable counts as true.
+pub fn first_of_some(given: &[u64], truth: &[u64], unnamed: bool, from: usize, m: usize) -> usize
+    requires { ⌜ (0 < from) × (from + m < mostVariables) × (0 < countSet (countsTrue unnamed (lent (now given) (now truth))) from m) ⌝ }
+    ensures { λ r. ⌜ (r ≡ first m (setFrom (countsTrue unnamed (lent (now (given .entry)) (now (truth .entry)))) from)) × (r < m) ⌝ }
 {
-    first_set(row, from, m)
+    first_set(given, truth, unnamed, from, m)
 }
 
-// The pair of the first two set bits among m from one on; where fewer are set there is none.
-pub fn first_pair(row: &[u64], from: usize, m: usize) -> usize
+// The pair of the first two among m variables from one on that are not named false; where fewer are there is none.
+pub fn first_pair(given: &[u64], truth: &[u64], from: usize, m: usize) -> usize
     requires { ⌜ (0 < from) × (m ≤ maxActions) × (from + m < mostVariables) ⌝ }
-    ensures { λ r. ⌜ FirstPair m (setFrom (now (row .entry)) from) r ⌝ }
+    ensures { λ r. ⌜ FirstPair m (setFrom (countsTrue true (lent (now (given .entry)) (now (truth .entry)))) from) r ⌝ }
 {
-    if count_set(row, from, m) < 2 {
+    if count_set(given, truth, UNNAMED_IN_NEGATIVE, from, m) < 2 {
         return pairs_below(m);
     }
-    let i = first_of_some(row, from, m);
-    let j = i + 1 + first_of_some(row, from + i + 1, m - i - 1);
+    let i = first_of_some(given, truth, UNNAMED_IN_NEGATIVE, from, m);
+    let t = first_of_some(given, truth, UNNAMED_IN_NEGATIVE, from + i + 1, m - i - 1);
+    let j = i + 1 + t;
     i * (2 * m - i - 1) / 2 + (j - i - 1)
 }

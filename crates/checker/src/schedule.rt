@@ -1,4 +1,5 @@
 // The schedule that a model states.
+use crate::bits::UNNAMED_IN_POSITIVE;
 use crate::bits::first_action;
 use crate::pairs::first_of_some;
 use rows::count_set;
@@ -12,22 +13,23 @@ ghost use Rattle.rules.specs.Calls.{problemOf};
 ghost use Rattle.rules.specs.Readings.{entryOf, scheduleOf};
 ghost use Rattle.task.specs.Index.{Indexed};
 ghost use Rattle.task.specs.Numbers.{atAnyHorizon};
-ghost use Rattle.checker.specs.Order.{complete};
+ghost use Rattle.rules.specs.Truth.{modelIn};
+ghost use Rattle.rows.specs.Lent.{lent};
 
-// The entry of a step: one more than the number of its true action, 0 where there is none.
-fn entry_at(file: &[u8], index: &[usize], row: &[u64], step: usize) -> u32
+// The entry of a step: one more than the number of the action that is named true there, 0 where there is none.
+fn entry_at(file: &[u8], index: &[usize], given: &[u64], truth: &[u64], step: usize) -> u32
     requires { ⌜ Indexed (now file) (now index) × (step ≤ maxHorizon) ⌝ }
-    ensures { λ r. ⌜ r ≡ entryOf (atAnyHorizon (now (file .entry))) (complete (now (row .entry))) step ⌝ }
+    ensures { λ r. ⌜ r ≡ entryOf (atAnyHorizon (now (file .entry))) (modelIn (lent (now (given .entry)) (now (truth .entry)))) step ⌝ }
 {
     let count = actions(file, index);
     if count == 0 {
         return 0;
     }
     let from = first_action(file, index, step);
-    if count_set(row, from, count) == 0 {
+    if count_set(given, truth, UNNAMED_IN_POSITIVE, from, count) == 0 {
         return 0;
     }
-    let t = first_of_some(row, from, count);
+    let t = first_of_some(given, truth, UNNAMED_IN_POSITIVE, from, count);
     (t + 1) as u32
 }
 
@@ -36,15 +38,16 @@ pub fn write_schedule(
     file: &[u8],
     index: &[usize],
     horizon: usize,
-    row: &[u64],
+    given: &[u64],
+    truth: &[u64],
     entries: &mut [u32],
 )
     requires { ⌜ Indexed (now file) (now index) × (horizon ≤ maxHorizon) × (horizon ≤ length (now entries)) ⌝ }
-    ensures { λ _. ⌜ now (entries .exit) ≡ scheduleOf (problemOf (now (file .entry)) horizon) (complete (now (row .entry))) ++ drop horizon (now (entries .entry)) ⌝ }
+    ensures { λ _. ⌜ now (entries .exit) ≡ scheduleOf (problemOf (now (file .entry)) horizon) (modelIn (lent (now (given .entry)) (now (truth .entry)))) ++ drop horizon (now (entries .entry)) ⌝ }
 {
     let mut step = 0;
     while step < horizon {
-        entries[step] = entry_at(file, index, row, step);
+        entries[step] = entry_at(file, index, given, truth, step);
         step += 1;
     }
 }

@@ -27,6 +27,7 @@ ghost use Rattle.rules.specs.File.{taskOf};
 ghost use Rattle.rules.specs.Families.{C};
 ghost use Rattle.rules.specs.Calls.{problemOf};
 ghost use Rattle.task.specs.Index.{Indexed};
+ghost use Rattle.rows.specs.Lent.{lent};
 ghost use Rattle.checker.specs.Order.{isFalse, stepsOf, clausesOf, stepClauses, Reached, Come, familyCount};
 
 // The lowest false clause up to the end of an item.
@@ -34,37 +35,38 @@ fn in_item(
     file: &[u8],
     index: &[usize],
     horizon: usize,
-    row: &[u64],
+    given: &[u64],
+    truth: &[u64],
     family: usize,
     step: usize,
     i: usize,
     at: usize,
 ) -> usize
-    requires { ⌜ Come (now file) (now index) (now row) horizon family step i at ⌝ }
-    ensures { λ r. ⌜ r ≡ first (at + clausesOf (taskOf (now (file .entry))) family i) (isFalse (now (file .entry)) horizon (now (row .entry))) ⌝ }
+    requires { ⌜ Come (now file) (now index) (lent (now given) (now truth)) horizon family step i at ⌝ }
+    ensures { λ r. ⌜ r ≡ first (at + clausesOf (taskOf (now (file .entry))) family i) (isFalse (now (file .entry)) horizon (lent (now (given .entry)) (now (truth .entry)))) ⌝ }
 {
     if family == START_VALUES {
-        return start_clause(file, index, horizon, row, i, at);
+        return start_clause(file, index, horizon, given, truth, i, at);
     }
     if family == GOAL_PAIRS {
-        return goal_clause(file, index, horizon, row, i, at);
+        return goal_clause(file, index, horizon, given, truth, i, at);
     }
     if family == SOME_VALUE {
-        return some_value_clause(file, index, horizon, row, step, i, at);
+        return some_value_clause(file, index, horizon, given, truth, step, i, at);
     }
     if family == TWO_VALUES {
-        return two_values_clauses(file, index, horizon, row, step, i, at);
+        return two_values_clauses(file, index, horizon, given, truth, step, i, at);
     }
     if family == PRECONDITIONS_HOLD {
-        return precondition_clauses(file, index, horizon, row, step, i, at);
+        return precondition_clauses(file, index, horizon, given, truth, step, i, at);
     }
     if family == EFFECTS_HOLD {
-        return effect_clauses(file, index, horizon, row, step, i, at);
+        return effect_clauses(file, index, horizon, given, truth, step, i, at);
     }
     if family == VALUES_STAY {
-        return stay_clauses(file, index, horizon, row, step, i, at);
+        return stay_clauses(file, index, horizon, given, truth, step, i, at);
     }
-    two_actions_clauses(file, index, horizon, row, step, at)
+    two_actions_clauses(file, index, horizon, given, truth, step, at)
 }
 
 // Up to the end of a step.
@@ -72,20 +74,21 @@ fn in_step(
     file: &[u8],
     index: &[usize],
     horizon: usize,
-    row: &[u64],
+    given: &[u64],
+    truth: &[u64],
     family: usize,
     step: usize,
     start: usize,
 ) -> usize
-    requires { ⌜ Reached (now file) (now index) (now row) horizon family step 0 start × (family < familyCount) × (step < stepsOf horizon family) ⌝ }
-    ensures { λ r. ⌜ r ≡ first (start + stepClauses (taskOf (now (file .entry))) family) (isFalse (now (file .entry)) horizon (now (row .entry))) ⌝ }
+    requires { ⌜ Reached (now file) (now index) (lent (now given) (now truth)) horizon family step 0 start × (family < familyCount) × (step < stepsOf horizon family) ⌝ }
+    ensures { λ r. ⌜ r ≡ first (start + stepClauses (taskOf (now (file .entry))) family) (isFalse (now (file .entry)) horizon (lent (now (given .entry)) (now (truth .entry)))) ⌝ }
 {
     let items = items_of(file, index, family);
     let mut i = 0;
     let mut at = start;
     while i < items {
         let next = at + clauses_of(file, index, family, i);
-        let c = in_item(file, index, horizon, row, family, step, i, at);
+        let c = in_item(file, index, horizon, given, truth, family, step, i, at);
         if c < next {
             return c;
         }
@@ -100,12 +103,13 @@ fn in_family(
     file: &[u8],
     index: &[usize],
     horizon: usize,
-    row: &[u64],
+    given: &[u64],
+    truth: &[u64],
     family: usize,
     start: usize,
 ) -> usize
-    requires { ⌜ Reached (now file) (now index) (now row) horizon family 0 0 start × (family < familyCount) ⌝ }
-    ensures { λ r. ⌜ r ≡ first (start + stepsOf horizon family * stepClauses (taskOf (now (file .entry))) family) (isFalse (now (file .entry)) horizon (now (row .entry))) ⌝ }
+    requires { ⌜ Reached (now file) (now index) (lent (now given) (now truth)) horizon family 0 0 start × (family < familyCount) ⌝ }
+    ensures { λ r. ⌜ r ≡ first (start + stepsOf horizon family * stepClauses (taskOf (now (file .entry))) family) (isFalse (now (file .entry)) horizon (lent (now (given .entry)) (now (truth .entry)))) ⌝ }
 {
     let steps = steps_of(horizon, family);
     let width = step_clauses(file, index, family);
@@ -113,7 +117,7 @@ fn in_family(
     let mut at = start;
     while step < steps {
         let next = at + width;
-        let c = in_step(file, index, horizon, row, family, step, at);
+        let c = in_step(file, index, horizon, given, truth, family, step, at);
         if c < next {
             return c;
         }
@@ -131,16 +135,22 @@ fn family_clauses(file: &[u8], index: &[usize], horizon: usize, family: usize) -
     steps_of(horizon, family) * step_clauses(file, index, family)
 }
 
-// The lowest false clause of a model that gives every variable; C where none is false.
-pub fn lowest_false(file: &[u8], index: &[usize], horizon: usize, row: &[u64]) -> usize
+// The lowest clause without a true literal among those named; C where each has one.
+pub fn lowest_false(
+    file: &[u8],
+    index: &[usize],
+    horizon: usize,
+    given: &[u64],
+    truth: &[u64],
+) -> usize
     requires { ⌜ Indexed (now file) (now index) × (horizon ≤ maxHorizon) ⌝ }
-    ensures { λ r. ⌜ r ≡ first (C (problemOf (now (file .entry)) horizon)) (isFalse (now (file .entry)) horizon (now (row .entry))) ⌝ }
+    ensures { λ r. ⌜ r ≡ first (C (problemOf (now (file .entry)) horizon)) (isFalse (now (file .entry)) horizon (lent (now (given .entry)) (now (truth .entry)))) ⌝ }
 {
     let mut family = 0;
     let mut at = 0;
     while family < FAMILY_COUNT {
         let next = at + family_clauses(file, index, horizon, family);
-        let c = in_family(file, index, horizon, row, family, at);
+        let c = in_family(file, index, horizon, given, truth, family, at);
         if c < next {
             return c;
         }

@@ -1,4 +1,6 @@
-// Family 7: a value that is true at the next step is true at this one, or an action that is true gives it.
+// Family 7: a value that is not named false at the next step is named true at this one, or an action that is named true gives it.
+use crate::bits::UNNAMED_IN_NEGATIVE;
+use crate::bits::UNNAMED_IN_POSITIVE;
 use crate::bits::first_action;
 use crate::bits::value_holds;
 use rows::first_set;
@@ -17,6 +19,7 @@ ghost use Rattle.rules.specs.Limits.{maxHorizon};
 ghost use Rattle.rules.specs.Task.{n, d, A as actionCount, action};
 ghost use Rattle.rules.specs.File.{taskOf};
 ghost use Rattle.task.specs.Index.{Indexed};
+ghost use Rattle.rows.specs.Lent.{lent};
 ghost use Rattle.checker.specs.Order.{isFalse, clausesOf, Come, valuesStay};
 ghost use Rattle.checker.specs.Staying.{effectIs, givesAt, supportedAt, changesAlone};
 
@@ -47,16 +50,24 @@ fn gives(file: &[u8], index: &[usize], a: usize, x: usize, v: usize) -> bool
     false
 }
 
-// An action that is true at a step gives x = v; only the true ones are looked at.
-fn supported(file: &[u8], index: &[usize], row: &[u64], step: usize, x: usize, v: usize) -> bool
+// An action that is named true at a step gives x = v; only those are looked at.
+fn supported(
+    file: &[u8],
+    index: &[usize],
+    given: &[u64],
+    truth: &[u64],
+    step: usize,
+    x: usize,
+    v: usize,
+) -> bool
     requires { ⌜ Indexed (now file) (now index) × (step ≤ maxHorizon) ⌝ }
-    ensures { λ r. ⌜ r ≡ supportedAt (now (file .entry)) (now (row .entry)) step x v ⌝ }
+    ensures { λ r. ⌜ r ≡ supportedAt (now (file .entry)) (lent (now (given .entry)) (now (truth .entry))) step x v ⌝ }
 {
     let count = actions(file, index);
     let mut a = 0;
     while a < count {
         let from = first_action(file, index, step);
-        let t = a + first_set(row, from + a, count - a);
+        let t = a + first_set(given, truth, UNNAMED_IN_POSITIVE, from + a, count - a);
         if count <= t {
             return false;
         }
@@ -68,18 +79,35 @@ fn supported(file: &[u8], index: &[usize], row: &[u64], step: usize, x: usize, v
     false
 }
 
-// A value is true at the next step and not at this one, and no action that is true gives it.
-fn changes_alone(file: &[u8], index: &[usize], row: &[u64], step: usize, x: usize, v: usize) -> bool
+// A value is not named false at the next step and not named true at this one, and no action that is named true gives it.
+fn changes_alone(
+    file: &[u8],
+    index: &[usize],
+    given: &[u64],
+    truth: &[u64],
+    step: usize,
+    x: usize,
+    v: usize,
+) -> bool
     requires { ⌜ Indexed (now file) (now index) × (step + 1 ≤ maxHorizon) × (x < n (taskOf (now file))) × (v < d (taskOf (now file)) x) ⌝ }
-    ensures { λ r. ⌜ r ≡ changesAlone (now (file .entry)) (now (row .entry)) step x v ⌝ }
+    ensures { λ r. ⌜ r ≡ changesAlone (now (file .entry)) (lent (now (given .entry)) (now (truth .entry))) step x v ⌝ }
 {
-    if !value_holds(file, index, row, step + 1, x, v) {
+    if !value_holds(
+        file,
+        index,
+        given,
+        truth,
+        UNNAMED_IN_NEGATIVE,
+        step + 1,
+        x,
+        v,
+    ) {
         return false;
     }
-    if value_holds(file, index, row, step, x, v) {
+    if value_holds(file, index, given, truth, UNNAMED_IN_POSITIVE, step, x, v) {
         return false;
     }
-    !supported(file, index, row, step, x, v)
+    !supported(file, index, given, truth, step, x, v)
 }
 
 // No value of a variable changes alone at a step.
@@ -87,18 +115,19 @@ pub fn stay_clauses(
     file: &[u8],
     index: &[usize],
     horizon: usize,
-    row: &[u64],
+    given: &[u64],
+    truth: &[u64],
     step: usize,
     x: usize,
     at: usize,
 ) -> usize
-    requires { ⌜ Come (now file) (now index) (now row) horizon valuesStay step x at ⌝ }
-    ensures { λ r. ⌜ r ≡ first (at + clausesOf (taskOf (now (file .entry))) valuesStay x) (isFalse (now (file .entry)) horizon (now (row .entry))) ⌝ }
+    requires { ⌜ Come (now file) (now index) (lent (now given) (now truth)) horizon valuesStay step x at ⌝ }
+    ensures { λ r. ⌜ r ≡ first (at + clausesOf (taskOf (now (file .entry))) valuesStay x) (isFalse (now (file .entry)) horizon (lent (now (given .entry)) (now (truth .entry)))) ⌝ }
 {
     let values = size(file, x);
     let mut v = 0;
     while v < values {
-        if changes_alone(file, index, row, step, x, v) {
+        if changes_alone(file, index, given, truth, step, x, v) {
             return at + v;
         }
         v += 1;

@@ -134,13 +134,7 @@ pub fn counts_true(given: &[u64], truth: &[u64], unnamed: bool, variable: usize)
 }
 
 // How many of the `many` variables from `from` on count as true.
-pub fn count_set(
-    given: &[u64],
-    truth: &[u64],
-    unnamed: bool,
-    from: usize,
-    many: usize,
-) -> usize
+pub fn count_set(given: &[u64], truth: &[u64], unnamed: bool, from: usize, many: usize) -> usize
     requires { ⌜ (0 < from) × (from + many < 2 ^ 64) ⌝ }
     ensures { λ r. ⌜ r ≡ countSet (countsTrue unnamed (lent (now (given .entry)) (now (truth .entry)))) from many ⌝ }
 {
@@ -156,13 +150,7 @@ pub fn count_set(
 }
 
 // Which of the `many` variables from `from` on is the first that counts as true, counted from 0; `many` where none does.
-pub fn first_set(
-    given: &[u64],
-    truth: &[u64],
-    unnamed: bool,
-    from: usize,
-    many: usize,
-) -> usize
+pub fn first_set(given: &[u64], truth: &[u64], unnamed: bool, from: usize, many: usize) -> usize
     requires { ⌜ (0 < from) × (from + many < mostVariables) ⌝ }
     ensures { λ r. ⌜ r ≡ first many (setFrom (countsTrue unnamed (lent (now (given .entry)) (now (truth .entry)))) from) ⌝ }
 {

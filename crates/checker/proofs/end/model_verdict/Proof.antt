@@ -1,6 +1,6 @@
 -- `model_verdict` meets its contract.
 -- Assumes nothing.
-use Rattle.checker.proofs.EndLaws.{clause-false, clauses-true, given-not, variables-few}
+use Rattle.checker.proofs.EndLaws.{clause-false, clauses-true}
 use borrow.Author.Needs.{needs}
 use Rattle.checker.proofs.end.model_verdict.Statement.{statement}
 use Rattle.checker.proofs.end.model_verdict.Tie as tie
@@ -9,10 +9,6 @@ pub model-verdict-spec : {M : Type 1} → statement M
 model-verdict-spec =
     tie.close
     (tie.spec
-    (λ c κs. search needs)
-    (λ c κs. search (needs, variables-few))
-    (λ c. search needs)
-    (λ c. search (needs, given-not))
     (λ c κs. search needs)
     (λ c κs. search needs)
     (λ c. search (needs, clause-false))

@@ -3,6 +3,7 @@
 use mathlib.Core.Path.{_≡_}
 use Prim.Native.Nat.{_≤_, _+_, _-_}
 use Rattle.rules.specs.Counting.{first}
+use Rattle.rows.specs.Lent.{lent}
 use Rattle.checker.specs.Order.{isFalse}
 use Rattle.checker.proofs.ItemLaws.{pairs-yet, precondition-action, precondition-again, precondition-all, precondition-fails, precondition-fits, precondition-idle, precondition-item, precondition-there, step-low}
 use borrow.Author.Needs.{needs}
@@ -10,10 +11,10 @@ use Rattle.checker.proofs.families.precondition_clauses.Statement.{stat
 use Rattle.checker.proofs.families.precondition_clauses.Tie as tie
 
 abbrev Inv-loop : tie.InvT-loop
-Inv-loop file index horizon row step a at count i₀ i = (i ≤ count) × (first (at + i) (isFalse file horizon row) ≡ at + i)
+Inv-loop file index horizon given truth step a at count i₀ i = (i ≤ count) × (first (at + i) (isFalse file horizon (lent given truth)) ≡ at + i)
 
 abbrev μ-loop : tie.MeasureT-loop
-μ-loop file index horizon row step a at count i₀ i = count - i
+μ-loop file index horizon given truth step a at count i₀ i = count - i
 
 pub precondition-clauses-spec : {M : Type 1} → statement M
 precondition-clauses-spec =

@@ -7,7 +7,8 @@ use lib.ListN.{length, drop}
 use Rattle.rules.specs.Counting.{table}
 use Rattle.rules.specs.Readings.{entryOf}
 use Rattle.task.specs.Numbers.{atAnyHorizon}
-use Rattle.checker.specs.Order.{complete}
+use Rattle.rules.specs.Truth.{modelIn}
+use Rattle.rows.specs.Lent.{lent}
 use Rattle.checker.proofs.ScheduleLaws.{entries-more}
 use Rattle.checker.proofs.ScheduleLaws.{entries-all, entries-none}
 use borrow.Author.Needs.{needs}
@@ -15,10 +16,10 @@ use Rattle.checker.proofs.schedule.write_schedule.Statement.{statement}
 use Rattle.checker.proofs.schedule.write_schedule.Tie as tie
 
 abbrev Inv-loop : tie.InvT-loop
-Inv-loop file index horizon row entries₀ step₀ entries step = (step ≤ horizon) × (length entries ≡ length entries₀) × (entries ≡ table step (entryOf (atAnyHorizon file) (complete row)) ++ drop step entries₀)
+Inv-loop file index horizon given truth entries₀ step₀ entries step = (step ≤ horizon) × (length entries ≡ length entries₀) × (entries ≡ table step (entryOf (atAnyHorizon file) (modelIn (lent given truth))) ++ drop step entries₀)
 
 abbrev μ-loop : tie.MeasureT-loop
-μ-loop file index horizon row entries₀ step₀ entries step = horizon - step
+μ-loop file index horizon given truth entries₀ step₀ entries step = horizon - step
 
 pub write-schedule-spec : {M : Type 1} → statement M
 write-schedule-spec =

@@ -1,6 +1,7 @@
 -- `in_family` meets its contract. The loop's invariant: the search has come to the step, and found nothing false before it.
 -- Assumes nothing.
 use Prim.Native.Nat.{_≤_, _-_}
+use Rattle.rows.specs.Lent.{lent}
 use Rattle.checker.specs.Order.{Reached}
 use Rattle.checker.proofs.Moving.{step-fits, step-found, step-passed, step-there, steps-done}
 use borrow.Author.Needs.{needs}
@@ -8,10 +9,10 @@ use Rattle.checker.proofs.search.in_family.Statement.{statement}
 use Rattle.checker.proofs.search.in_family.Tie as tie
 
 abbrev Inv-loop : tie.InvT-loop
-Inv-loop file index horizon row family start steps width step₀ at₀ step at = (step ≤ steps) × Reached file index row horizon family step 0 at
+Inv-loop file index horizon given truth family start steps width step₀ at₀ step at = (step ≤ steps) × Reached file index (lent given truth) horizon family step 0 at
 
 abbrev μ-loop : tie.MeasureT-loop
-μ-loop file index horizon row family start steps width step₀ at₀ step at = steps - step
+μ-loop file index horizon given truth family start steps width step₀ at₀ step at = steps - step
 
 pub in-family-spec : {M : Type 1} → statement M
 in-family-spec =

@@ -1,6 +1,7 @@
 -- `in_step` meets its contract. The loop's invariant: the search has come to item i, and found nothing false before it.
 -- Assumes nothing.
 use Prim.Native.Nat.{_≤_, _-_}
+use Rattle.rows.specs.Lent.{lent}
 use Rattle.checker.specs.Order.{Reached}
 use Rattle.checker.proofs.Moving.{come-here, item-fits, item-found, item-passed, item-there, items-done}
 use borrow.Author.Needs.{needs}
@@ -8,10 +9,10 @@ use Rattle.checker.proofs.search.in_step.Statement.{statement}
 use Rattle.checker.proofs.search.in_step.Tie as tie
 
 abbrev Inv-loop : tie.InvT-loop
-Inv-loop file index horizon row family step start items i₀ at₀ i at = (i ≤ items) × Reached file index row horizon family step i at
+Inv-loop file index horizon given truth family step start items i₀ at₀ i at = (i ≤ items) × Reached file index (lent given truth) horizon family step i at
 
 abbrev μ-loop : tie.MeasureT-loop
-μ-loop file index horizon row family step start items i₀ at₀ i at = items - i
+μ-loop file index horizon given truth family step start items i₀ at₀ i at = items - i
 
 pub in-step-spec : {M : Type 1} → statement M
 in-step-spec =

@@ -1,6 +1,7 @@
 -- `lowest_false` meets its contract. The loop's invariant: the search has come to the family, and found nothing false before it.
 -- Assumes nothing.
 use Prim.Native.Nat.{_≤_, _-_}
+use Rattle.rows.specs.Lent.{lent}
 use Rattle.checker.specs.Order.{Reached, familyCount}
 use Rattle.checker.proofs.Moving.{families-done, family-fits, family-found, family-passed, start-here}
 use borrow.Author.Needs.{needs}
@@ -8,10 +9,10 @@ use Rattle.checker.proofs.search.lowest_false.Statement.{statement}
 use Rattle.checker.proofs.search.lowest_false.Tie as tie
 
 abbrev Inv-loop : tie.InvT-loop
-Inv-loop file index horizon row family₀ at₀ family at = (family ≤ familyCount) × Reached file index row horizon family 0 0 at
+Inv-loop file index horizon given truth family₀ at₀ family at = (family ≤ familyCount) × Reached file index (lent given truth) horizon family 0 0 at
 
 abbrev μ-loop : tie.MeasureT-loop
-μ-loop file index horizon row family₀ at₀ family at = familyCount - family
+μ-loop file index horizon given truth family₀ at₀ family at = familyCount - family
 
 pub lowest-false-spec : {M : Type 1} → statement M
 lowest-false-spec =
