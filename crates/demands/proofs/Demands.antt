@@ -19,10 +19,10 @@ use Rattle.rules.specs.Problem.{Problem}
 use Rattle.rules.specs.Numbering.{N}
 use Rattle.rules.specs.Families.{signed, family1, family2, family3, family4, family5, family6, family7, family8, formula, C, clause}
 use Rattle.rules.specs.Counts.{sum, countTable}
-use Rattle.rules.specs.Rows.{Rows, bitOfVariable}
-use Rattle.rules.specs.Truth.{Complete, satisfies, modelIn}
+use Rattle.rules.specs.Rows.{Rows}
+use Rattle.rules.specs.Truth.{satisfies, modelIn, assigned, completion}
 use Rattle.rules.specs.Walk.{CarriedOut, isPlan}
-use Rattle.rules.specs.Readings.{scheduleOf, rowsOf}
+use Rattle.rules.specs.Readings.{scheduleOf, rowsHolding, rowsOf}
 use Rattle.rules.specs.Lines.{rowsFit}
 use Rattle.rules.specs.Calls.{problemOf}
 use Rattle.rules.specs.declared.Verdict.{Verdict}
@@ -103,13 +103,9 @@ module _ (file : List ℕ) (k : ℕ) where
     pub rows-fit : rowsFit (N P) rows ≡ true
     pub entries-fit : k ≤ length entries
 
-  -- two models are the same on the N variables
-  pub record SameModel (rows rows′ : Rows) : Type 0 where
-    pub given : (i : ℕ) → i < N P → bitOfVariable (rows .given) (suc i) ≡ bitOfVariable (rows′ .given) (suc i)
-    pub isTrue : (i : ℕ) → i < N P → bitOfVariable (rows .isTrue) (suc i) ≡ bitOfVariable (rows′ .isTrue) (suc i)
-
-  -- Demand 2: the formula is exactly the eight families, in the stated order, with true counts; a complete model is accepted exactly if it makes
-  -- every clause true, and becomes the schedule it states; a schedule becomes a model exactly if its moves can be carried out and reach the goal
+  -- Demand 2: the formula is exactly the eight families, in the stated order, with true counts; a closed model is accepted exactly if every clause has a
+  -- true literal among those named, and becomes the schedule that its completion states; a schedule becomes a model exactly if its moves can be carried
+  -- out and reach the goal
   pub record Demand2 : Type 1 where
     pub families : (room after : ℕ → List ℤ) (answer : ℕ → LiteralsAnswer) → ((c : ℕ) → c < C P → length (clause P c) ≤ length (room c))
         → ((c : ℕ) → c < C P → Spelled file k c (room c) (answer c) (after c))
@@ -118,26 +114,26 @@ module _ (file : List ℕ) (k : ℕ) where
     pub counted : (answer : CountsAnswer) → Counted file k answer
         → answer ≡ Found (k * (S (taskOf file) + A (taskOf file)) + S (taskOf file)) (sum (countTable (taskOf file) k))
     pub model : (rows : Rows) (entries after : List ℕ) (verdict : Verdict) → Ended file k ModelClosed rows entries verdict after
-        → Enough rows entries → Complete P rows → (verdict ≡ Accepted) ↔ (satisfies (modelIn rows) (formula P) ≡ true)
+        → Enough rows entries → (verdict ≡ Accepted) ↔ (satisfies (modelIn rows) (formula P) ≡ true)
     pub nothing-else : (phase : Phase) (rows : Rows) (entries after : List ℕ) → Ended file k phase rows entries Accepted after → ModelHolds P phase rows
     pub becomes-schedule : (phase : Phase) (rows : Rows) (entries after : List ℕ) → Ended file k phase rows entries Accepted after
-        → after ≡ scheduleOf P (modelIn rows) ++ drop k entries
+        → after ≡ scheduleOf P (assigned (completion P (modelIn rows))) ++ drop k entries
     pub schedule : (entries : List ℕ) (rows after : Rows) (verdict : Verdict) → WentBack file k entries rows verdict after
         → Enough rows entries → (verdict ≡ Accepted) ↔ CarriedOut (taskOf file) k entries
     pub becomes-model : (entries : List ℕ) (rows after : Rows) → WentBack file k entries rows Accepted after → after ≡ rowsOf P entries rows
 
-  -- Demand 3: the way back of what the end wrote is, on the N variables, the model that it read; the end accepts what the way back wrote and gives the
-  -- schedule again; no two models share a schedule; and a model is accepted exactly when a plan of at most k moves exists
+  -- Demand 3: the way back of what the end wrote is the completion of the model that it read; the end accepts what the way back wrote and gives the
+  -- schedule again; no two completions share a schedule; and a model is accepted exactly when a plan of at most k moves exists
   pub record Demand3 : Type 1 where
     pub end-then-back : (phase : Phase) (rows before after : Rows) (entries written : List ℕ) (verdict : Verdict)
         → Ended file k phase rows entries Accepted written → WentBack file k written before verdict after → rowsFit (N P) before ≡ true
-        → (verdict ≡ Accepted) × SameModel after rows
+        → (verdict ≡ Accepted) × (after ≡ rowsHolding P (completion P (modelIn rows)) before)
     pub back-then-end : (entries lent after : List ℕ) (rows written : Rows) (verdict : Verdict)
         → WentBack file k entries rows Accepted written → Ended file k ModelClosed written lent verdict after → k ≤ length lent
         → (verdict ≡ Accepted) × (take k after ≡ take k entries)
     pub no-two : (phase phase′ : Phase) (rows rows′ : Rows) (entries entries′ after after′ : List ℕ)
         → Ended file k phase rows entries Accepted after → Ended file k phase′ rows′ entries′ Accepted after′
-        → take k after ≡ take k after′ → SameModel rows rows′
+        → take k after ≡ take k after′ → completion P (modelIn rows) ≡ completion P (modelIn rows′)
     pub plan-of-model : (phase : Phase) (rows : Rows) (entries after : List ℕ) → Ended file k phase rows entries Accepted after
         → (moves : List ℕ) × (length moves ≤ k) × (isPlan (taskOf file) moves ≡ true)
     pub model-of-plan : (moves : List ℕ) → length moves ≤ k → isPlan (taskOf file) moves ≡ true

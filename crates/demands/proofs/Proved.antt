@@ -17,10 +17,10 @@ use Rattle.rules.specs.Problem.{Problem}
 use Rattle.rules.specs.Numbering.{N}
 use Rattle.rules.specs.Families.{signed, family1, family2, family3, family4, family5, family6, family7, family8, formula, C}
 use Rattle.rules.specs.Counts.{sum, countTable}
-use Rattle.rules.specs.Rows.{Rows, wordsFor, bitOfVariable}
-use Rattle.rules.specs.Truth.{Complete, modelIn}
+use Rattle.rules.specs.Rows.{Rows, wordsFor}
+use Rattle.rules.specs.Truth.{modelIn, assigned, completion}
 use Rattle.rules.specs.Walk.{CarriedOut}
-use Rattle.rules.specs.Readings.{scheduleOf, rowsOf}
+use Rattle.rules.specs.Readings.{scheduleOf, assignmentOf, rowsOf}
 use Rattle.rules.specs.Answers.{judge}
 use Rattle.rules.specs.Lines.{rowsFit}
 use Rattle.rules.specs.Calls.{problemOf, problemVerdict, lentRules, endVerdict, endEntries, backVerdict, backRows}
@@ -34,7 +34,7 @@ use Rattle.rules.proofs.Bools.{and-both}
 use Rattle.rules.proofs.Judging.{inTurn-right}
 use Rattle.rules.proofs.Schedules.{length-schedule}
 use Rattle.rules.proofs.Plans.{movesOf, moves-most, schedule-plan, padded, length-padded, plan-schedule}
-use Rattle.rules.proofs.InRows.{rows-good, rows-back}
+use Rattle.rules.proofs.Completed.{completed-schedule, model-good, model-back}
 use Rattle.rules.proofs.Proved as Rules
 use Rattle.rules.proofs.Valid.{WellFormed}
 use Rattle.rules.proofs.Files.{accepted-well-formed}
@@ -126,13 +126,12 @@ module _ (file : List ℕ) (fine : fileVerdict file ≡ Accepted) (k : ℕ) (sma
 
     good : CarriedOut T k (scheduleOf P (modelIn rows))
     unfolding problemOf
-    good = rows-good T well k rows (holds .complete) (holds .all-true)
+    good = model-good T well k (modelIn rows) (holds .all-true)
 
-    -- each bit of the model is that of its schedule's rows
-    bit-back : (lent : Rows) (i : ℕ) → i < N P
-        → bitOfVariable (rowsOf P (scheduleOf P (modelIn rows)) lent .isTrue) (suc i) ≡ bitOfVariable (rows .isTrue) (suc i)
+    -- the completion is the assignment of that schedule
+    stated-back : assignmentOf P (scheduleOf P (modelIn rows)) ≡ completion P (modelIn rows)
     unfolding problemOf
-    bit-back lent = rows-back T well k rows lent (holds .complete) (holds .all-true)
+    stated-back = model-back T well k (modelIn rows) (holds .all-true)
 
   -- ---- a way back that was accepted
 
@@ -144,22 +143,19 @@ module _ (file : List ℕ) (fine : fileVerdict file ≡ Accepted) (k : ℕ) (sma
     enough-entries : k ≤ length entries
     enough-entries = rw (e .horizon-is, e .entries-are) at (accepts-exactly (e .κs) (e .a) Accepted (e .x) (e .promised) .0 refl .entries-there)
 
-    gives-all : Complete P after
-    unfolding problemOf
-    gives-all i l = ap (λ r. bitOfVariable (r .given) (suc i)) model-written ∙ Rules.demand2 T k .rows-hold entries rows i l .0
-
   pub demand2 : Demand2 file k
   demand2 =
       record {
         families = λ room after answer enough e.
             the-formula file k stated room after answer enough (λ c h. spelled-is file k c (room c) (answer c) (after c) (e c h)) ∙ ap (map (map signed)) in-order;
         counted = λ answer e. counted-is file k answer e ∙ the-counts file k stated ∙ true-counts;
-        model = λ rows entries after verdict e enough c.
+        model = λ rows entries after verdict e enough.
             let same = ended-verdict file k ModelClosed rows entries verdict after e in
             let exactly = answers .model ModelClosed rows entries (enough .rows-fit) (enough .entries-fit) in
-            (λ h. exactly .0 (same ∙ h) .all-true, λ t. sym same ∙ exactly .1 (record { closed = refl; complete = c; all-true = t }));
+            (λ h. exactly .0 (same ∙ h) .all-true, λ t. sym same ∙ exactly .1 (record { closed = refl; all-true = t }));
         nothing-else = holds;
-        becomes-schedule = writes;
+        becomes-schedule = λ phase rows entries after e.
+            writes phase rows entries after e ∙ ap (λ schedule. schedule ++ drop k entries) (completed-schedule P (modelIn rows));
         schedule = λ entries rows after verdict e enough.
             let same = back-verdict file k entries rows verdict after e in
             let exactly = answers .schedule entries rows (enough .rows-fit) (enough .entries-fit) in
@@ -186,15 +182,7 @@ module _ (file : List ℕ) (fine : fileVerdict file ≡ Accepted) (k : ℕ) (sma
             let back = pair .end-then-back phase rows before entries fit (ended-verdict file k phase rows entries Accepted written e) in
             let is : written ≡ endEntries file k phase rows entries = ended-entries file k phase rows entries Accepted written e in
             let accepted : verdict ≡ Accepted = sym (back-verdict file k written before verdict after b) ∙ ap (λ w. backVerdict file k w before) is ∙ back .0 in
-            let m = holds phase rows entries written e in (
-              accepted,
-              record {
-                given = λ i l. gives-all written before after (rw accepted at b) i l ∙ sym (m .complete i l);
-                isTrue = λ i l.
-                    ap (λ r. bitOfVariable (r .isTrue) (suc i)) (back-rows file k written before verdict after b ∙ ap (λ w. backRows file k w before) is)
-                    ∙ back .1 i l;
-              },
-            );
+            (accepted, back-rows file k written before verdict after b ∙ ap (λ w. backRows file k w before) is ∙ back .1);
         back-then-end = λ entries lent after rows written verdict b e l.
             let end = pair .back-then-end rows entries lent l (enough-entries entries rows written b) (back-verdict file k entries rows Accepted written b) in
             let is : written ≡ backRows file k entries rows = back-rows file k entries rows Accepted written b in (
@@ -204,13 +192,7 @@ module _ (file : List ℕ) (fine : fileVerdict file ≡ Accepted) (k : ℕ) (sma
         no-two = λ phase phase′ rows rows′ entries entries′ after after′ e e′ same.
             let s : scheduleOf P (modelIn rows) ≡ scheduleOf P (modelIn rows′) =
             sym (writes-first phase rows entries after e) ∙ same ∙ writes-first phase′ rows′ entries′ after′ e′ in
-            record {
-              given = λ i l. holds phase rows entries after e .complete i l ∙ sym (holds phase′ rows′ entries′ after′ e′ .complete i l);
-              isTrue = λ i l.
-                  sym (bit-back phase rows entries after e blank i l)
-                  ∙ ap (λ s. bitOfVariable (rowsOf P s blank .isTrue) (suc i)) s
-                  ∙ bit-back phase′ rows′ entries′ after′ e′ blank i l;
-            };
+            sym (stated-back phase rows entries after e) ∙ ap (assignmentOf P) s ∙ stated-back phase′ rows′ entries′ after′ e′;
         plan-of-model = λ phase rows entries after e.
             let schedule = scheduleOf P (modelIn rows) in
             let long = size phase rows entries after e in

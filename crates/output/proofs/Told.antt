@@ -145,7 +145,6 @@ module _ (file : List ℕ) (fine : fileVerdict file ≡ Accepted) (k : ℕ) (sma
       holds-accepted P rows ModelClosed
       (record {
         closed = refl;
-        complete = λ i l. all-given bits (freshRows P) fits few (none-given (wordsFor (N P))) i (omega (arith, sized));
         all-true = satisfied-alike P (modelIn rows) (assigned bits) agreeing well ∙ assignment-good (taskOf file) k well entries c;
       })
 

@@ -1,6 +1,6 @@
 -- Demand 2 over the way back's own answer: a schedule becomes a model exactly if its moves can be carried out and reach the goal, where the file and
--- the horizon are accepted and enough is lent; and then both rows are the model's. And the half of demand 3 that is about these rows: they give every
--- variable, make every clause true, and state the schedule again.
+-- the horizon are accepted and enough is lent; and then both rows are the model's. And the half of demand 3 that is about these rows: they make every
+-- clause true and state the schedule again.
 -- Assumes nothing.
 use mathlib.Core.Path.{_≡_, sym, ap, _∙_}
 use mathlib.Core.Logic.{_↔_}
