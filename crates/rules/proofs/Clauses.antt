@@ -17,6 +17,24 @@ use Rattle.rules.proofs.Bools.{either, clash, or-cases, or-left, or-rig
 use Rattle.rules.proofs.Counting.{any-forEach, one-of}
 use Rattle.rules.proofs.EachClause.{EachClause, each-clause, every-clause}
 
+-- ---- clauses under any model
+
+module _ (M : Model) where
+  -- a clause of one literal, of two, or of positive literals is true by one of them
+  pub the-one-literal : (l : Literal) → clauseTrue M (l ∷ []) ≡ true → literalTrue M l ≡ true
+  unfolding clauseTrue any
+  the-one-literal l h = ⊎-elim (λ t. t) (λ t. clash t refl) (or-cases (literalTrue M l) false h)
+
+  pub one-of-two : (l m : Literal) → clauseTrue M (l ∷ m ∷ []) ≡ true → (literalTrue M l ≡ true) ⊎ (literalTrue M m ≡ true)
+  unfolding clauseTrue any
+  one-of-two l m h = ⊎-elim (λ t. inl t) (λ t. inr (the-one-literal m t)) (or-cases (literalTrue M l) _ h)
+
+  pub among : (m : ℕ) (f : ℕ → ℕ) → clauseTrue M (table m (λ i. plus (f i))) ≡ true → (i : ℕ) × (i < m) × (literalTrue M (plus (f i)) ≡ true)
+  unfolding clauseTrue
+  among m f h =
+      let r = one-of (literalTrue M) m (λ i. plus (f i) ∷ []) h in
+      (r .0, r .1, the-one-literal (plus (f (r .0))) (r .2))
+
 -- ---- clauses under an assignment that gives every variable
 
 abbrev pub complete : (ℕ → Bool) → Model
@@ -24,8 +42,8 @@ complete τ = record { given = λ v. true; isTrue = τ }
 
 module _ (τ : ℕ → Bool) where
   pub one-true : (v : ℕ) → clauseTrue (complete τ) (plus v ∷ []) ≡ true → τ v ≡ true
-  unfolding clauseTrue any literalTrue
-  one-true v h = ⊎-elim (λ t. t) (λ t. clash t refl) (or-cases (τ v) false h)
+  unfolding literalTrue
+  one-true v h = the-one-literal (complete τ) (plus v) h
 
   pub true-one : (v : ℕ) → τ v ≡ true → clauseTrue (complete τ) (plus v ∷ []) ≡ true
   unfolding clauseTrue any literalTrue
@@ -47,13 +65,6 @@ module _ (τ : ℕ → Bool) where
   pub empty-false : {X : Type 0} → clauseTrue (complete τ) [] ≡ true → X
   unfolding clauseTrue any
   empty-false h = clash h refl
-
-  -- a clause of positive literals is true by one of them
-  pub among : (m : ℕ) (f : ℕ → ℕ) → clauseTrue (complete τ) (table m (λ i. plus (f i))) ≡ true → (i : ℕ) × (i < m) × (τ (f i) ≡ true)
-  unfolding clauseTrue literalTrue any
-  among m f h =
-      let r = one-of (literalTrue (complete τ)) m (λ i. plus (f i) ∷ []) h in
-      (r .0, r .1, ⊎-elim (λ t. t) (λ t. clash t refl) (or-cases (τ (f (r .0))) false (r .2)))
 
   pub true-among : (m : ℕ) (f : ℕ → ℕ) (i : ℕ) → i < m → τ (f i) ≡ true → clauseTrue (complete τ) (table m (λ i. plus (f i))) ≡ true
   unfolding clauseTrue literalTrue any
@@ -93,7 +104,7 @@ module _ (P : Problem) where
         (or-cases (τ (valueNumber P s x v)) _ h)
       where
         supporter : (g : Bool) (v : ℕ) → any (literalTrue (complete τ)) (when g (plus v ∷ [])) ≡ true → (g ≡ true) × (τ v ≡ true)
-        supporter true v h = (refl, ⊎-elim (λ t. t) (λ t. clash t refl) (or-cases (τ v) false h))
+        supporter true v h = (refl, the-one-literal (complete τ) (plus v) h)
         supporter false v h = clash h refl
 
     support : (s x v : ℕ)
@@ -107,13 +118,13 @@ module _ (P : Problem) where
         (rw (r .2) (or-left _ _ (r .3))))
 
     pub facts : satisfies (complete τ) (formula P) ≡ true → Facts τ
-    unfolding satisfies
+    unfolding satisfies literalTrue
     facts h =
         let c : EachClause P isTrue = each-clause P isTrue h in
         record {
           starts = λ x hx. one-true τ _ (c .in1 x hx);
           reaches = λ i hi. one-true τ _ (c .in2 i hi);
-          some-value = λ s x hs hx. among τ _ _ (c .in3 s x hs hx);
+          some-value = λ s x hs hx. among (complete τ) _ _ (c .in3 s x hs hx);
           one-value = λ s x v w hs hx l hw t u. empty-false τ (implied τ _ _ (implied τ _ _ (c .in4 s x v w hs hx l hw) t) u);
           needs = λ s a i hs ha hi t. one-true τ _ (implied τ _ _ (c .in5 s a i hs ha hi) t);
           causes = λ s a i hs ha hi t. one-true τ _ (implied τ _ _ (c .in6 s a i hs ha hi) t);

@@ -2,8 +2,9 @@
 -- assignment of the schedule that it states.
 -- Assumes nothing.
 use mathlib.Core.Path.{_≡_, refl, sym, ap, _∙_}
-use mathlib.Core.Bool.{Bool, true, false, not, _&&_}
-use mathlib.Core.List.{List}
+use mathlib.Core.Logic.{⊎-elim}
+use mathlib.Core.Bool.{Bool, true, false, not}
+use mathlib.Core.List.{List, [], _∷_}
 use Prim.Native.Nat.{ℕ, suc, _-_, _≤_, _<_}
 use native.Mathlib.Omega.{arith}
 use lib.ListN.{length, getD}
@@ -13,14 +14,44 @@ use Rattle.rules.specs.Task.{Task}
 use Rattle.rules.specs.Problem.{Problem, problem}
 use Rattle.rules.specs.Numbering.{N}
 use Rattle.rules.specs.Families.{Literal, plus, minus, formula}
-use Rattle.rules.specs.Truth.{Model, literalTrue, satisfies, assigned, completion}
+use Rattle.rules.specs.Truth.{Model, literalTrue, clauseTrue, satisfies, assigned, completion}
 use Rattle.rules.specs.Walk.{CarriedOut}
 use Rattle.rules.specs.Readings.{scheduleOf, assignmentOf}
-use Rattle.rules.proofs.Bools.{and-left, and-right, not-true}
+use Rattle.rules.proofs.Bools.{clash, and-left, and-right, not-true, below-or}
 use Rattle.rules.proofs.Counting.{length-table, getD-table}
 use Rattle.rules.proofs.Valid.{WellFormed}
-use Rattle.rules.proofs.Within.{SaysMore, satisfied-more, schedule-same}
+use Rattle.rules.proofs.Clauses.{one-of-two}
+use Rattle.rules.proofs.Within.{variableIn, SaysMore, satisfied-more, schedule-same}
 use Rattle.rules.proofs.Schedules.{schedule-good, assignment-back}
+
+-- ---- what true literals and clauses say of what is named
+
+module _ (M : Model) where
+  -- a variable of which a literal is true is named
+  pub named : (l : Literal) → literalTrue M l ≡ true → M .given (variableIn l) ≡ true
+  unfolding literalTrue
+  named (plus v) t = and-left (M .given v) (M .isTrue v) t
+  named (minus v) t = and-left (M .given v) (not (M .isTrue v)) t
+
+  -- where its negation is true, a variable is not
+  pub negated-false : (v : ℕ) → literalTrue M (minus v) ≡ true → literalTrue M (plus v) ≡ false
+  unfolding literalTrue
+  negated-false v t = rw (named (minus v) t, not-true (M .isTrue v) (and-right (M .given v) (not (M .isTrue v)) t)) refl
+
+  -- an unnamed variable leaves a clause to the other literal
+  pub left-to : (v : ℕ) (l : Literal) → M .given v ≡ false → clauseTrue M (minus v ∷ l ∷ []) ≡ true → literalTrue M l ≡ true
+  left-to v l g h = ⊎-elim (λ t. clash (named (minus v) t) g) (λ t. t) (one-of-two M (minus v) l h)
+
+  -- of variables that exclude each other two by two, where one's negation is not true, that of every other is
+  pub others-negated : (m : ℕ) (f : ℕ → ℕ) → ((i j : ℕ) → i < j → j < m → clauseTrue M (minus (f i) ∷ minus (f j) ∷ []) ≡ true)
+      → (i j : ℕ) → i < m → j < m → (i ≡ j → ⊥) → (literalTrue M (minus (f i)) ≡ true → ⊥) → literalTrue M (minus (f j)) ≡ true
+  others-negated m f pairs i j hi hj apart untrue =
+      ⊎-elim (λ l. ⊎-elim (λ t. absurd (untrue t)) (λ t. t) (one-of-two M _ _ (pairs i j l hj)))
+      (λ l.
+      ⊎-elim (λ r. ⊎-elim (λ t. t) (λ t. absurd (untrue t)) (one-of-two M _ _ (pairs j i r hi))) (λ r. absurd (apart (omega arith))) (below-or j i))
+      (below-or i j)
+
+-- ---- the completion
 
 module _ (P : Problem) where
   pub length-completion : (M : Model) → length (completion P M) ≡ N P
@@ -47,11 +78,7 @@ module _ (P : Problem) where
   completed-more : (M : Model) → SaysMore P M (assigned (completion P M))
   unfolding literalTrue
   completed-more M (plus v) low up t = completed-at M v low up ∙ t
-  completed-more M (minus v) low up t =
-      let isFalse : M .isTrue v ≡ false = not-true (M .isTrue v) (and-right (M .given v) (not (M .isTrue v)) t) in
-      let isGiven : M .given v ≡ true = and-left (M .given v) (not (M .isTrue v)) t in
-      let none : (M .given v && M .isTrue v) ≡ false = rw (isGiven, isFalse) refl in
-      ap not (completed-at M v low up ∙ none)
+  completed-more M (minus v) low up t = ap not (completed-at M v low up ∙ negated-false M v t)
 
   pub completed-schedule : (M : Model) → scheduleOf P M ≡ scheduleOf P (assigned (completion P M))
   unfolding literalTrue

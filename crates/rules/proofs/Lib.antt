@@ -1,4 +1,4 @@
--- What is proved of the rules. Demands, Figures, Table, Translated and TextOfTask are the pages to read; the rest is how.
+-- What is proved of the rules. Demands, Unnamed, Figures, Table, Translated and TextOfTask are the pages to read; the rest is how.
 pub mod Bools
 pub mod Counting
 pub mod Judging
@@ -37,6 +37,7 @@ pub mod Runs
 pub mod Figures
 pub mod Demands
 pub mod Proved
+pub mod Unnamed
 pub mod InRows
 pub mod AtCalls
 pub mod LinesInOrder

@@ -9,11 +9,12 @@ use native.Mathlib.Omega.{arith}
 use borrow.Author.Tests.{eqb-true, eqb-false}
 use lib.Dec.{eqb}
 use lib.ListN.{length, getD, set, length-set, length-append, List·getD-append, replicate}
-use lib.Seq.{getD-set-same, getD-set-other}
+use lib.Seq.{getD-set-same, getD-set-other, set-getD}
+use Rattle.rules.specs.Counting.{every}
 use Rattle.rules.specs.Limits.{maxVariables}
 use Rattle.rules.specs.Task.{Pair, Action, Task, n, d, A, startValue, pair, action}
-use Rattle.rules.specs.Walk.{State, startState, setPairs, apply}
-use Rattle.rules.proofs.Bools.{either, below-or, below-suc}
+use Rattle.rules.specs.Walk.{State, startState, holds, setPairs, apply}
+use Rattle.rules.proofs.Bools.{either, and-left, and-right, below-or, below-suc}
 use Rattle.rules.proofs.Valid.{InOrder, Inside, ActionFine, WellFormed}
 
 -- ---- setting pairs
@@ -40,6 +41,15 @@ pub length-setPairs : (σ : State) (ps : List Pair) → length (setPairs σ ps) 
 unfolding setPairs
 length-setPairs σ [] = refl
 length-setPairs σ (p ∷ ps) = length-setPairs (set σ (p .variable) (p .value)) ps ∙ length-set σ (p .variable) (p .value)
+
+-- pairs that hold already change nothing
+pub set-held : (σ : State) (ps : List Pair) → every (holds σ) ps ≡ true → setPairs σ ps ≡ σ
+unfolding setPairs every holds
+set-held σ [] h = refl
+set-held σ (p ∷ ps) h =
+    let already : getD σ (p .variable) 0 ≡ p .value = eqb-true _ _ (and-left (holds σ p) (every (holds σ) ps) h) in
+    ap (λ σ′. setPairs σ′ ps) (ap (set σ (p .variable)) (sym already) ∙ set-getD σ (p .variable) 0)
+    ∙ set-held σ ps (and-right (holds σ p) (every (holds σ) ps) h)
 
 -- afterwards x has the value of a pair that names it, or, where none does, its old one
 pub set-pairs-at : (σ : State) (ps : List Pair) (x : ℕ) → ((i : ℕ) → i < length ps → pair ps i .variable < length σ)

@@ -178,7 +178,7 @@ module _ (T : Task) (k : ℕ) where
   abbrev P : Problem
   P = problem T k
 
-  entry-at : (M : Model) (s : ℕ) → s < k → entry (scheduleOf P M) s ≡ entryOf P M s
+  pub entry-at : (M : Model) (s : ℕ) → s < k → entry (scheduleOf P M) s ≡ entryOf P M s
   unfolding scheduleOf
   entry-at M s l = getD-table k (entryOf P M) 0 s l
 
