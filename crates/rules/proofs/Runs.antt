@@ -1,4 +1,5 @@
--- The folder example run through the definitions: what the two programs print, and the lines that the rules give answers for.
+-- The folder example run through the definitions: what the two programs print, and the lines that the rules give answers for. And a task with an action
+-- that changes nothing, which a model may leave unnamed.
 -- Assumes nothing.
 use mathlib.Core.Path.{_≡_, refl}
 use mathlib.Core.List.{List, [], _∷_, _++_, map}
@@ -29,8 +30,17 @@ lineRead phase line =
     let answer = answerToLine (readLine (record { highest = 10; phase = phase }) (record { given = 0 ∷ []; isTrue = 0 ∷ [] }) (ascii line) .answer) in
     answer .number ∷ answer .detail ∷ []
 
+abbrev pub modelRunOn : List ℕ → ℕ → String → List ℕ
+modelRunOn file k output = modelOutput (k ∷ bytes16 (length file) ++ file ++ ascii output)
+
 abbrev pub modelRun : ℕ → String → List ℕ
-modelRun k output = modelOutput (k ∷ bytes16 (length folder) ++ folder ++ ascii output)
+modelRun k output = modelRunOn folder k output
+
+-- one variable of two values, 0 at the start and in the goal, and one action from 0 to 0
+unfoldable pub still : List ℕ
+still =
+    0x10 ∷ 0x00 ∷ 0x01 ∷ 0x00 ∷ 0x11 ∷ 0x00 ∷ 0x01 ∷ 0x00 ∷ 0x12 ∷ 0x00 ∷ 0x02 ∷ 0x00 ∷ 0x14 ∷ 0x00 ∷ 0x06 ∷ 0x00
+    ∷ 0x02 ∷ 0x00 ∷ 0x00 ∷ 0x00 ∷ 0x01 ∷ 0x01 ∷ 0x00 ∷ 0x00 ∷ 0x00 ∷ 0x00 ∷ []
 
 pub record Run : Type 0 where
   pub asked : List ℕ
@@ -49,7 +59,12 @@ runs =
     ∷ run (modelRun 2 "c a model\ns SATISFIABLE\nv 1 -2 3 -4 5 -6 -7 8 9 -10\nv -11 12 13 -14 -15 16 0\n") (ascii "1\n2\n")
     ∷ run (modelRun 2 "s SATISFIABLE\nv 1 -2 3 -4 5 -6 -7 8 9 -10 -11 12 13 -14 -15 -16 0") (ascii "refused 17 2\n")
     ∷ run (modelRun 2 "s SATISFIABLE\nv 1 -2 3 -4 5 -6 -7 8 9 -10 -11 12 13 -14 -15 0\n") (ascii "refused 17 2\n")
+    -- without -6, clause -6 2 has no true literal among those named
+    ∷ run (modelRun 2 "s SATISFIABLE\nv 1 -2 3 -4 5 -7 8 9 -10 -11 12 13 -14 -15 16 0\n") (ascii "refused 17 16\n")
     ∷ run (modelRun 2 "s SATISFIABLE\nv 1 -2 3 -4 5 -6 -7 8 9 -10 -11 12 13 -14 -15 16\n") (ascii "refused 15 0\n")
+    -- action 3 is not named, and the step stays empty; value 2 has to be
+    ∷ run (modelRunOn still 1 "s SATISFIABLE\nv 1 -2 4 -5 0\n") (ascii "0\n")
+    ∷ run (modelRunOn still 1 "s SATISFIABLE\nv 1 4 -5 0\n") (ascii "refused 17 4\n")
     ∷ run (modelRun 1 "s UNSATISFIABLE\n") (ascii "refused 18 0\n")
     ∷ run (lineRead ModelOpen "v 11") (13 ∷ 2 ∷ [])
     ∷ run (lineRead ModelOpen "v 1 1") (14 ∷ 4 ∷ [])
@@ -69,5 +84,5 @@ unfolding
     pieces reach isNumber valueFrom variableOf literalOf wordRules scanWord scanPiece scanPieces scanLine agree same
     saysSatisfiable saysUnsatisfiable saysUnknown isStatus statusReach phaseSaid kindOf kindVerdict lineVerdict phaseAfter named rowsFit readLine
     withoutEmptyLast linesOf readLines readOutput modelRules outcome
-    problemOf problemRules problemVerdict clausesOutput modelOutput scheduleText folder
+    problemOf problemRules problemVerdict clausesOutput modelOutput scheduleText folder still
 all-runs = refl
