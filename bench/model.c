@@ -8,7 +8,8 @@
 enum { MAX_INPUT = 1 << 24, MAX_VARIABLES = 96, MAX_ACTIONS = 512, MAX_N = 99328, MAX_LINE = 4096, MAX_DIGITS = 6 };
 
 static unsigned char input[MAX_INPUT];
-static unsigned char given[MAX_N + 1], truth[MAX_N + 1];
+/* the variables named true, and those named false */
+static unsigned char yes[MAX_N + 1], no[MAX_N + 1];
 static int n, goals, actions, values, width, horizon, variables;
 static int size[MAX_VARIABLES], off[MAX_VARIABLES];
 static const unsigned char *start, *goal, *action[MAX_ACTIONS];
@@ -69,9 +70,8 @@ static void read_numbers(const unsigned char *line, long length)
             closed = 1;
             continue;
         }
-        if (given[number]) refuse(14, first);
-        given[number] = 1;
-        truth[number] = !negative;
+        if (yes[number] || no[number]) refuse(14, first);
+        (negative ? no : yes)[number] = 1;
     }
 }
 
@@ -112,26 +112,26 @@ static int supported(int step, int x, int v)
     for (int a = 0; a < actions; a++) {
         const unsigned char *pairs = action[a] + 2 + 2 * action[a][0];
         for (int i = 0; i < action[a][1]; i++)
-            if (pairs[2 * i] == x && pairs[2 * i + 1] == v && truth[action_number(step, a)]) return 1;
+            if (pairs[2 * i] == x && pairs[2 * i + 1] == v && yes[action_number(step, a)]) return 1;
     }
     return 0;
 }
 
 static void try_values(void)
 {
-    for (int x = 0; x < n; x++) try_clause(truth[value_number(0, x, start[x])]);
-    for (int i = 0; i < goals; i++) try_clause(truth[pair_number(horizon, goal + 2 * i)]);
+    for (int x = 0; x < n; x++) try_clause(yes[value_number(0, x, start[x])]);
+    for (int i = 0; i < goals; i++) try_clause(yes[pair_number(horizon, goal + 2 * i)]);
     for (int step = 0; step <= horizon; step++)
         for (int x = 0; x < n; x++) {
             int some = 0;
-            for (int v = 0; v < size[x] && !some; v++) some = truth[value_number(step, x, v)];
+            for (int v = 0; v < size[x] && !some; v++) some = yes[value_number(step, x, v)];
             try_clause(some);
         }
     for (int step = 0; step <= horizon; step++)
         for (int x = 0; x < n; x++) {
-            const unsigned char *row = truth + value_number(step, x, 0);
+            const unsigned char *row = no + value_number(step, x, 0);
             for (int v = 0; v < size[x]; v++)
-                for (int w = v + 1; w < size[x]; w++) try_clause(!row[v] || !row[w]);
+                for (int w = v + 1; w < size[x]; w++) try_clause(row[v] || row[w]);
         }
 }
 
@@ -139,19 +139,19 @@ static void try_moves(void)
 {
     for (int step = 0; step < horizon; step++)
         for (int a = 0; a < actions; a++)
-            for (int i = 0; i < action[a][0]; i++) try_clause(!truth[action_number(step, a)] || truth[pair_number(step, action[a] + 2 + 2 * i)]);
+            for (int i = 0; i < action[a][0]; i++) try_clause(no[action_number(step, a)] || yes[pair_number(step, action[a] + 2 + 2 * i)]);
     for (int step = 0; step < horizon; step++)
         for (int a = 0; a < actions; a++)
             for (int i = 0; i < action[a][1]; i++)
-                try_clause(!truth[action_number(step, a)] || truth[pair_number(step + 1, action[a] + 2 + 2 * (action[a][0] + i))]);
+                try_clause(no[action_number(step, a)] || yes[pair_number(step + 1, action[a] + 2 + 2 * (action[a][0] + i))]);
     for (int step = 0; step < horizon; step++)
         for (int x = 0; x < n; x++)
             for (int v = 0; v < size[x]; v++)
-                try_clause(!truth[value_number(step + 1, x, v)] || truth[value_number(step, x, v)] || supported(step, x, v));
+                try_clause(no[value_number(step + 1, x, v)] || yes[value_number(step, x, v)] || supported(step, x, v));
     for (int step = 0; step < horizon; step++) {
-        const unsigned char *row = truth + action_number(step, 0);
+        const unsigned char *row = no + action_number(step, 0);
         for (int a = 0; a < actions; a++)
-            for (int b = a + 1; b < actions; b++) try_clause(!row[a] || !row[b]);
+            for (int b = a + 1; b < actions; b++) try_clause(row[a] || row[b]);
     }
 }
 
@@ -169,14 +169,12 @@ int main(void)
     if (!status) refuse(15, 0);
     if (status != 1) refuse(status, 0);
     if (!closed) refuse(15, 0);
-    for (int v = 1; v <= variables; v++)
-        if (!given[v]) refuse(16, v);
     try_values();
     try_moves();
     for (int step = 0; step < horizon; step++) {
         int entry = 0;
         for (int a = 0; a < actions && !entry; a++)
-            if (truth[action_number(step, a)]) entry = a + 1;
+            if (yes[action_number(step, a)]) entry = a + 1;
         printf("%d\n", entry);
     }
     return 0;
