@@ -73,6 +73,17 @@ fn model(file: &[u8], horizon: usize, truth: u64) {
     finish(file, horizon, Phase::ModelClosed, ALL, truth);
 }
 
+// The end of a reading of a task with one value and two actions without pairs, at horizon 1: its formula is 1, 1, 4, -4 1, -2 -3.
+fn without_pairs(given: u64, truth: u64) {
+    finish(
+        b"\x10\x00\x01\x00\x11\x00\x01\x00\x12\x00\x00\x00\x12\x00\x04\x00\x01\x00\x00\x00\x00\x00",
+        1,
+        Phase::ModelClosed,
+        given,
+        truth,
+    );
+}
+
 fn run(file: &[u8]) {
     // P7, and P8's four: (0,1,2) (1,0,2) (1,2,0) (1,2,1)
     model(file, 2, TAKE_AND_RUN);
@@ -94,16 +105,19 @@ fn run(file: &[u8]) {
     model(file, 2, 39349);
     model(file, 2, 43413);
     model(file, 2, 37253);
-    // family 8: two actions with no pairs
-    finish(
-        b"\x10\x00\x01\x00\x11\x00\x01\x00\x12\x00\x00\x00\x12\x00\x04\x00\x01\x00\x00\x00\x00\x00",
-        1,
-        Phase::ModelClosed,
-        ALL,
-        15,
-    );
-    // a variable that is not given; the other ends; no room; a horizon that is too high; no file
+    // family 8: two actions at one step
+    without_pairs(ALL, 15);
+    // one of them may be left out, whatever its true bit says: 2, and 3; but not both, and neither beside the other as a move
+    without_pairs(13, 9);
+    without_pairs(13, 11);
+    without_pairs(11, 13);
+    without_pairs(9, 9);
+    without_pairs(11, 11);
+    // 16 is not given; 6 is not, and so "-6 2" has no true literal; nothing is
     finish(file, 2, Phase::ModelClosed, 32767, TAKE_AND_RUN);
+    finish(file, 2, Phase::ModelClosed, 65503, TAKE_AND_RUN);
+    finish(file, 2, Phase::ModelClosed, 0, TAKE_AND_RUN);
+    // the other ends; no room; a horizon that is too high; no file
     finish(file, 2, Phase::NoStatus, ALL, TAKE_AND_RUN);
     finish(file, 2, Phase::ModelOpen, ALL, TAKE_AND_RUN);
     finish(file, 2, Phase::SaidUnsatisfiable, ALL, TAKE_AND_RUN);
