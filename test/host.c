@@ -40,6 +40,10 @@ static const char OUTPUT[] = "c a solver\ns SATISFIABLE\nv 1 -2 3 -4 5 -6 -7 8\n
 static const uint64_t ALL_GIVEN = 0xffff;
 static const uint64_t MODEL_TRUE = 0x9995;
 
+/* a task of one value and two actions without pairs, which change nothing; its formula at horizon 1 is 1, 1, 4, -4 1, -2 -3 */
+static const uint8_t IDLE[] = {0x10, 0x00, 0x01, 0x00, 0x11, 0x00, 0x01, 0x00, 0x12, 0x00, 0x00,
+                               0x00, 0x12, 0x00, 0x04, 0x00, 0x01, 0x00, 0x00, 0x00, 0x00, 0x00};
+
 enum {
     FOLDER_LENGTH = sizeof FOLDER,
     SIZES_AT = 16, /* the first domain size */
@@ -54,6 +58,7 @@ enum {
     ALL_BYTES = sizeof CLAUSES - 1,
     CLAUSE_WITH_THREE = 17, /* -7 1 6 */
     BIT_OF_5 = 4,
+    BIT_OF_6 = 5,
     BIT_OF_16 = 15
 };
 
@@ -488,8 +493,47 @@ static int end_told(size_t phase, uint64_t given, uint64_t truth, size_t lent, s
            memcmp(entries, number == 0 ? schedule : found, sizeof entries) == 0;
 }
 
+/* the end of a reading of the task IDLE at horizon 1, from rows: a schedule is its one empty step */
+static int idle_told(uint64_t given, uint64_t truth, size_t number, size_t about) {
+    struct rows rows = DIRTY;
+    uint32_t entries[] = {GUARD_ENTRY, GUARD_ENTRY};
+    const uint32_t found[] = {GUARD_ENTRY, GUARD_ENTRY}, schedule[] = {0, GUARD_ENTRY};
+    struct cell detail = FRESH;
+    rows.given[0] = given;
+    rows.truth[0] = truth;
+    size_t result = wawrolen_end_reading(IDLE, sizeof IDLE, 1, WAWROLEN_MODEL_CLOSED, rows.given, 1, rows.truth, 1, entries, 1, &detail.value);
+    return told(result, detail, number, about) && rows_hold(&rows, given, truth) &&
+           memcmp(entries, number == 0 ? schedule : found, sizeof entries) == 0;
+}
+
+/* the same from solver output, whose v line is this one: a whole reading */
+static int idle_read(const char *line, size_t number, size_t about) {
+    static const char STATUS[] = "s SATISFIABLE";
+    struct rows rows = DIRTY;
+    size_t highest, phase, detail;
+    return wawrolen_start_reading(IDLE, sizeof IDLE, 1, rows.given, 1, rows.truth, 1, &highest, &phase, &detail) == 0 &&
+           wawrolen_read_line(highest, &phase, rows.given, 1, rows.truth, 1, (const uint8_t *)STATUS, strlen(STATUS), &detail) == 0 &&
+           wawrolen_read_line(highest, &phase, rows.given, 1, rows.truth, 1, (const uint8_t *)line, strlen(line), &detail) == 0 &&
+           phase == WAWROLEN_MODEL_CLOSED && idle_told(rows.given[0], rows.truth[0], number, about);
+}
+
+static void partial_models(void) {
+    expect("a model that names all", idle_read("v 1 -2 -3 4 0", 0, 0));
+    expect("2 not named, which changes nothing", idle_read("v 1 -3 4 0", 0, 0));
+    expect("3 not named, which changes nothing", idle_read("v 1 -2 4 0", 0, 0));
+    expect("2 not given, its true bit set", idle_told(0xd, 0xb, 0, 0));
+    expect("2 and 3 not named: 17 at clause 4", idle_read("v 1 4 0", 17, 4));
+    expect("4 not given, its true bit set: 17 at clause 2", idle_told(0x7, 0x9, 17, 2));
+    expect("nothing named: 17 at clause 0", idle_read("v 0", 17, 0));
+}
+
+/* all variables are given but the one of this bit */
+static uint64_t all_but(unsigned bit) {
+    return ALL_GIVEN & ~((uint64_t)1 << bit);
+}
+
 static void ends(void) {
-    const uint64_t without_5 = ALL_GIVEN & ~((uint64_t)1 << BIT_OF_5), false_16 = MODEL_TRUE & ~((uint64_t)1 << BIT_OF_16);
+    const uint64_t false_16 = MODEL_TRUE & ~((uint64_t)1 << BIT_OF_16);
     expect("a model's schedule in just its room", end_told(WAWROLEN_MODEL_CLOSED, ALL_GIVEN, MODEL_TRUE, 2, 0, 0));
     expect("a model's schedule in more room", end_told(WAWROLEN_MODEL_CLOSED, ALL_GIVEN, MODEL_TRUE, 3, 0, 0));
     expect("bits behind N do not matter", end_told(WAWROLEN_MODEL_CLOSED, ~(uint64_t)0, ~ALL_GIVEN | MODEL_TRUE, 3, 0, 0));
@@ -498,7 +542,8 @@ static void ends(void) {
     expect("a made-up phase: 15", end_told(SIZE_MAX, ALL_GIVEN, MODEL_TRUE, 2, 15, 0));
     expect("UNSATISFIABLE: 18", end_told(WAWROLEN_SAID_UNSATISFIABLE, ALL_GIVEN, MODEL_TRUE, 2, 18, 0));
     expect("UNKNOWN: 19", end_told(WAWROLEN_SAID_UNKNOWN, ALL_GIVEN, MODEL_TRUE, 2, 19, 0));
-    expect("5 not given: 16", end_told(WAWROLEN_MODEL_CLOSED, without_5, MODEL_TRUE, 2, 16, 5));
+    expect("5, a move, not given: 17 at clause 28", end_told(WAWROLEN_MODEL_CLOSED, all_but(BIT_OF_5), MODEL_TRUE, 2, 17, 28));
+    expect("6 not given, -6 being all that is true in -6 2: 17 at clause 16", end_told(WAWROLEN_MODEL_CLOSED, all_but(BIT_OF_6), MODEL_TRUE, 2, 17, 16));
     expect("16 false: 17 at clause 2", end_told(WAWROLEN_MODEL_CLOSED, ALL_GIVEN, false_16, 2, 17, 2));
     expect("room for one entry: 10", end_told(WAWROLEN_MODEL_CLOSED, ALL_GIVEN, MODEL_TRUE, 1, 10, 0));
 }
@@ -543,6 +588,7 @@ int main(void) {
     outputs();
     overlong();
     ends();
+    partial_models();
     schedules();
     printf("%u passed, %u failed\n", passed, failed);
     return failed != 0;

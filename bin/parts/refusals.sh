@@ -20,8 +20,7 @@ refusal_in_words() {
         '13 '*) echo "a variable that the formula has not, at byte $2 of its line" ;;
         '14 '*) echo "a variable is given twice, at byte $2 of its line" ;;
         '15 '*) echo "it stops without a status, or before the model is closed" ;;
-        '16 '*) echo "variable $2 is not given" ;;
-        '17 '*) echo "the model makes clause $2 false" ;;
+        '17 '*) echo "clause $2 has no true literal among those named" ;;
         '18 '*) echo "it says UNSATISFIABLE" ;;
         '19 '*) echo "it says UNKNOWN" ;;
         *) echo "this refusal has no words here" ;;

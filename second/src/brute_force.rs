@@ -1,5 +1,6 @@
 //! Brute force on small tasks: every assignment of the N variables against
-//! every schedule. Goodness and the existence of plans are worked out here a
+//! every schedule, and every model that leaves variables out against its
+//! completion. Goodness and the existence of plans are worked out here a
 //! second time, on the task alone.
 
 use crate::checker::end;
@@ -16,6 +17,8 @@ use std::collections::{BTreeMap, BTreeSet};
 
 /// Assignments are counted through, so there must be few variables.
 pub const MOST_FORMULA_VARIABLES: u64 = 20;
+/// A variable that may also be left out has three ways to be, not two.
+const MOST_TO_LEAVE_OUT: u64 = 10;
 
 type Schedule = Vec<u64>;
 
@@ -23,6 +26,9 @@ type Schedule = Vec<u64>;
 #[derive(Clone, Debug, PartialEq, Eq)]
 pub struct Found {
     pub assignments: u64,
+    /// Accepted models that leave variables out; not looked for, and 0, where
+    /// there are many variables.
+    pub partial: u64,
     pub schedules: BTreeSet<Schedule>,
 }
 
@@ -30,8 +36,8 @@ struct Case<'a> {
     file: &'a [u8],
     formula: Formula,
     highest: u64,
-    /// Every row of this size has its N lowest bits set.
-    all_given: [u64; 1],
+    /// A row of one word with its N lowest bits set.
+    all_named: u64,
     /// Of each clause, the variables it wants true and those it wants false.
     wishes: Vec<(u64, u64)>,
 }
@@ -44,8 +50,8 @@ pub fn pair_off(file: &[u8], horizon: u64) -> Result<Found, String> {
         return Err(format!("{highest} variables are too many"));
     }
     let wishes = wishes(&formula)?;
-    let all_given = [(1 << highest) - 1];
-    let case = Case { file, formula, highest, all_given, wishes };
+    let all_named = (1 << highest) - 1;
+    let case = Case { file, formula, highest, all_named, wishes };
     let (assignments, read) = case.every_assignment()?;
     let schedules = case.every_schedule()?;
     if read != schedules {
@@ -57,7 +63,8 @@ pub fn pair_off(file: &[u8], horizon: u64) -> Result<Found, String> {
     if plan_exists(&case.formula.task, horizon) == schedules.is_empty() {
         return Err("a plan exists exactly where no schedule is good".into());
     }
-    Ok(Found { assignments, schedules })
+    let partial = case.every_partial_model()?;
+    Ok(Found { assignments, partial, schedules })
 }
 
 /// A random task at a horizon that leaves so few variables, paired off.
@@ -96,18 +103,17 @@ impl Case<'_> {
     fn every_assignment(&self) -> Result<(u64, BTreeSet<Schedule>), String> {
         let mut count = 0;
         let mut schedules = BTreeSet::new();
-        for assignment in 0..1_u64 << self.highest {
-            let holds = |&(yes, no): &(u64, u64)| assignment & yes != 0 || !assignment & no != 0;
-            let lowest_false = self.wishes.iter().position(|wish| !holds(wish));
-            match (lowest_false, self.read(assignment)) {
+        for assignment in 0..=self.all_named {
+            let lowest_false = self.lowest_not_satisfied(self.all_named, assignment);
+            match (lowest_false, self.read(self.all_named, assignment)) {
                 (None, Ok(schedule)) => {
-                    if self.model(&schedule) != Ok((self.all_given[0], assignment)) {
+                    if self.model(&schedule) != Ok((self.all_named, assignment)) {
                         return Err(format!("{schedule:?} has not the model {assignment:b}"));
                     }
                     schedules.insert(schedule);
                     count += 1;
                 }
-                (Some(number), Err(Refusal { number: CLAUSE_FALSE, detail }))
+                (Some(number), Err(Refusal { number: NO_TRUE_LITERAL, detail }))
                     if detail == number as u64 => {}
                 (wanted, got) => {
                     return Err(format!("{assignment:b}: clause {wanted:?} against {got:?}"));
@@ -117,6 +123,47 @@ impl Case<'_> {
         Ok((count, schedules))
     }
 
+    /// The lowest clause without a true literal among those named.
+    fn lowest_not_satisfied(&self, named: u64, truth: u64) -> Option<usize> {
+        let holds = |&(yes, no): &(u64, u64)| named & (truth & yes | !truth & no) != 0;
+        self.wishes.iter().position(|wish| !holds(wish))
+    }
+
+    /// How many models are accepted that leave variables out, which must be as
+    /// many as the task alone allows.
+    fn every_partial_model(&self) -> Result<u64, String> {
+        if self.highest > MOST_TO_LEAVE_OUT {
+            return Ok(0);
+        }
+        let mut accepted = 0;
+        for named in 0..self.all_named {
+            for truth in (0..=named).filter(|truth| truth & !named == 0) {
+                accepted += u64::from(self.is_accepted(named, truth)?);
+            }
+        }
+        let allowed = count_partial(&self.formula.task, self.formula.horizon);
+        match accepted == allowed {
+            true => Ok(accepted),
+            false => Err(format!("{accepted} models leave variables out, {allowed} may")),
+        }
+    }
+
+    /// Whether a model is accepted, which then has its completion's schedule.
+    /// True bits of variables that are left out must not count.
+    fn is_accepted(&self, named: u64, truth: u64) -> Result<bool, String> {
+        let wanted = match self.lowest_not_satisfied(named, truth) {
+            Some(number) => refuse_at(NO_TRUE_LITERAL, number),
+            None => self.read(self.all_named, truth),
+        };
+        for row in [truth, truth | !named] {
+            let got = self.read(named, row);
+            if got != wanted {
+                return Err(format!("{named:b}, {row:b}: {wanted:?} against {got:?}"));
+            }
+        }
+        Ok(wanted.is_ok())
+    }
+
     /// Every schedule that is good, each turned into a model and read back.
     fn every_schedule(&self) -> Result<BTreeSet<Schedule>, String> {
         let task = &self.formula.task;
@@ -124,7 +171,7 @@ impl Case<'_> {
         for schedule in all_schedules(task.actions.len() as u64, self.formula.horizon) {
             match (is_good(task, &schedule), self.model(&schedule)) {
                 (true, Ok((_, model))) => {
-                    if self.read(model).as_ref() != Ok(&schedule) {
+                    if self.read(self.all_named, model).as_ref() != Ok(&schedule) {
                         return Err(format!("the model of {schedule:?} reads otherwise"));
                     }
                     good.insert(schedule);
@@ -138,9 +185,9 @@ impl Case<'_> {
         Ok(good)
     }
 
-    fn read(&self, assignment: u64) -> Answer<Schedule> {
+    fn read(&self, named: u64, truth: u64) -> Answer<Schedule> {
         let state = ReadingState { highest: self.highest, phase: Phase::Closed };
-        let rows = (&self.all_given[..], &[assignment][..]);
+        let rows = (&[named][..], &[truth][..]);
         let mut entries = vec![0; self.formula.horizon as usize];
         end(self.file, self.formula.horizon, state, rows, &mut entries)?;
         Ok(entries)
@@ -196,13 +243,27 @@ pub fn is_good(task: &Task, schedule: &[u64]) -> bool {
     all_hold(&task.goal, &state)
 }
 
-/// How many schedules are good: in how many ways each state is reached, step
-/// by step.
+/// How many schedules are good.
 pub fn count_good(task: &Task, horizon: u64) -> u64 {
+    count_ways(task, horizon, |_| 1)
+}
+
+/// How many accepted models leave variables out: of the good schedules' models
+/// those that leave out, at an empty step, one action that would change nothing.
+pub fn count_partial(task: &Task, horizon: u64) -> u64 {
+    let keeps = |state: &[usize]| {
+        task.actions.iter().filter(|action| after(action, state).as_deref() == Some(state)).count()
+    };
+    count_ways(task, horizon, |state| 1 + keeps(state) as u64) - count_good(task, horizon)
+}
+
+/// In how many ways the goal is reached: those to each state, step by step, an
+/// empty step counted in as many ways as its state has for it.
+fn count_ways(task: &Task, horizon: u64, to_stay: impl Fn(&[usize]) -> u64) -> u64 {
     let mut ways = BTreeMap::from([(task.start.clone(), 1)]);
     for _ in 0..horizon {
-        // An empty step leaves every state as it is.
         let mut next = ways.clone();
+        next.iter_mut().for_each(|(state, count)| *count *= to_stay(state));
         for (state, count) in &ways {
             for reached in task.actions.iter().filter_map(|action| after(action, state)) {
                 *next.entry(reached).or_default() += count;

@@ -1,4 +1,5 @@
-//! The end of a reading: a complete model is checked and becomes a schedule.
+//! The end of a reading: a closed model is checked, by its named literals
+//! alone, and becomes a schedule.
 
 use crate::clauses::{formula, Clause, Formula};
 use crate::numbering::*;
@@ -9,7 +10,7 @@ use crate::solver_lines::{Phase, ReadingState};
 /// The entry of an empty step; action a has the entry a+1.
 pub const EMPTY_STEP: u64 = 0;
 
-/// Refusals 1 to 8 and 10, then 15, 18, 19, 15, 16 and 17. The highest
+/// Refusals 1 to 8 and 10, then 15, 18, 19, 15 and 17. The highest
 /// variable is the task's; the one in the state is not asked.
 pub fn end(
     file: &[u8],
@@ -26,13 +27,11 @@ pub fn end(
         return refuse(ROOM, NO_DETAIL);
     }
     judge_phase(state.phase)?;
-    if let Some(variable) = (1..=highest).find(|&v| !bit(given, FormulaVariable(v))) {
-        return refuse(NOT_GIVEN, variable);
+    let value = |variable| bit(given, variable).then(|| bit(truth, variable));
+    if let Some(number) = lowest_not_satisfied(&formula, value) {
+        return refuse(NO_TRUE_LITERAL, number);
     }
-    if let Some(number) = lowest_false_clause(&formula, truth) {
-        return refuse(CLAUSE_FALSE, number);
-    }
-    store(entries, &schedule_of(&formula, truth))
+    store(entries, &schedule_of(&formula, value))
 }
 
 fn judge_phase(phase: Phase) -> Answer<()> {
@@ -45,20 +44,26 @@ fn judge_phase(phase: Phase) -> Answer<()> {
     }
 }
 
-fn lowest_false_clause(formula: &Formula, truth: &[u64]) -> Option<u64> {
+/// Neither literal of an unnamed variable, which has no value, is true.
+fn lowest_not_satisfied(
+    formula: &Formula,
+    value: impl Fn(FormulaVariable) -> Option<bool>,
+) -> Option<u64> {
     let holds = |literal: &Literal| {
         let (variable, wanted) = variable_of(*literal);
-        bit(truth, variable) == wanted
+        value(variable) == Some(wanted)
     };
     let falls = |clause: Clause| !clause.iter().any(holds);
     formula.every_clause().position(falls).map(|number| number as u64)
 }
 
-/// The entries of a model: family 8 leaves at most one action to a step.
-fn schedule_of(formula: &Formula, truth: &[u64]) -> Vec<u64> {
+/// The entries of a model, unnamed actions being false: family 8 leaves at
+/// most one action to a step.
+fn schedule_of(formula: &Formula, value: impl Fn(FormulaVariable) -> Option<bool>) -> Vec<u64> {
     let actions = formula.task.actions.len();
     let entry = |step| {
-        let moved = |&a: &usize| bit(truth, formula.numbering.action_at(ActionNumber(a), step));
+        let number = |a: usize| formula.numbering.action_at(ActionNumber(a), step);
+        let moved = |&a: &usize| value(number(a)) == Some(true);
         (0..actions).find(moved).map_or(EMPTY_STEP, |a| a as u64 + 1)
     };
     (1..=formula.horizon).map(entry).collect()

@@ -25,6 +25,9 @@ pub struct Draft {
 pub struct Planned {
     pub draft: Draft,
     pub schedule: Vec<u64>,
+    /// Empty steps, from 1, each with an action, from 0, that would change
+    /// nothing there.
+    pub needless: Vec<(u64, usize)>,
 }
 
 pub type Bodies = [Vec<u8>; BODIES];
@@ -234,11 +237,13 @@ pub fn planned(random: &mut Random, size: Size, horizon: usize) -> Planned {
     let mut draft = draft(random, size);
     let mut state = draft.start.clone();
     let mut schedule = Vec::new();
-    for _ in 0..horizon {
+    let mut stays = Vec::new();
+    for step in 1..=horizon as u64 {
         let open = |a: &usize| applies(&draft.actions[*a], &state);
         let open: Vec<usize> = (0..draft.actions.len()).filter(open).collect();
         if open.is_empty() || random.once_in(EMPTY_ONCE_IN) {
             schedule.push(0);
+            stays.push((step, state.clone()));
             continue;
         }
         let a = random.pick(&open);
@@ -249,5 +254,39 @@ pub fn planned(random: &mut Random, size: Size, horizon: usize) -> Planned {
     let count = if is_filled(size) { variables } else { random.between(0, variables) };
     let goal = some_variables(random, variables, count);
     draft.goal = goal.iter().map(|&x| (x as u8, state[x])).collect();
-    Planned { draft, schedule }
+    if random.coin() {
+        make_needless(random, &mut draft, &schedule, &stays);
+    }
+    let needless = needless(&draft, &stays);
+    Planned { draft, schedule, needless }
+}
+
+/// An empty step and the state there.
+type Stay = (u64, Vec<u8>);
+
+/// One action that is no move gets the pairs of the state at an empty step.
+fn make_needless(random: &mut Random, draft: &mut Draft, schedule: &[u64], stays: &[Stay]) {
+    let no_move = |a: &usize| !schedule.contains(&(*a as u64 + 1));
+    let spare: Vec<usize> = (0..draft.actions.len()).filter(no_move).collect();
+    if spare.is_empty() || stays.is_empty() {
+        return;
+    }
+    let DraftAction { preconditions, effects } = &mut draft.actions[random.pick(&spare)];
+    let (_, state) = &stays[random.below(stays.len())];
+    for pair in preconditions.iter_mut().chain(effects) {
+        pair.1 = state[usize::from(pair.0)];
+    }
+}
+
+fn needless(draft: &Draft, stays: &[Stay]) -> Vec<(u64, usize)> {
+    let mut needless = Vec::new();
+    for (step, state) in stays {
+        let holds = |&(x, value): &DraftPair| state[usize::from(x)] == value;
+        for (a, action) in draft.actions.iter().enumerate() {
+            if applies(action, state) && action.effects.iter().all(holds) {
+                needless.push((*step, a));
+            }
+        }
+    }
+    needless
 }

@@ -226,13 +226,15 @@ fn show() -> Outcome {
 
 fn brute(seed: u64, count: u64) -> Outcome {
     let mut random = Random::new(seed);
-    let (mut satisfiable, mut schedules) = (0, 0);
+    let (mut satisfiable, mut schedules, mut partial) = (0, 0, 0);
     for _ in 0..count {
         let found = pair_off_any(&mut random, MOST_FORMULA_VARIABLES)?;
         satisfiable += u64::from(found.assignments > 0);
         schedules += found.assignments;
+        partial += found.partial;
     }
     println!("{count} formulas pair off, {satisfiable} satisfiable, {schedules} schedules");
+    println!("{partial} accepted models that leave variables out");
     Ok(())
 }
 

@@ -159,17 +159,19 @@ fn long_line(random: &mut Random, _: u64) -> Vec<u8> {
     line
 }
 
-/// The whole output for a model, number i being variable i+1's value. Faults
-/// may be put into the numbers, the lines and the bytes.
-pub fn output(random: &mut Random, model: &[bool], faults: bool) -> Vec<u8> {
+/// The whole output for a model, number i being variable i+1's value if it is
+/// named. Faults may be put into the numbers, the lines and the bytes.
+pub fn output(random: &mut Random, model: &[Option<bool>], faults: bool) -> Vec<u8> {
     const SPOILED_BYTES_ONCE_IN: usize = 3;
-    let number = |(value, variable): (&bool, i64)| if *value { variable } else { -variable };
-    let mut numbers: Vec<i64> = model.iter().zip(1..).map(number).collect();
+    let number = |(value, variable): (&Option<bool>, i64)| {
+        value.map(|value| if value { variable } else { -variable })
+    };
+    let mut numbers: Vec<i64> = model.iter().zip(1..).filter_map(number).collect();
     if random.coin() {
         random.shuffle(&mut numbers);
     }
-    if faults && random.coin() {
-        spoil_numbers(random, &mut numbers);
+    if faults && random.coin() && !numbers.is_empty() {
+        spoil_numbers(random, &mut numbers, model.len() as i64);
     }
     let mut lines = lines_of_numbers(random, &numbers);
     if faults && random.coin() {
@@ -184,9 +186,9 @@ pub fn output(random: &mut Random, model: &[bool], faults: bool) -> Vec<u8> {
 
 /// A number turned round, left out, doubled, raised above the highest, or the
 /// last numbers left out.
-fn spoil_numbers(random: &mut Random, numbers: &mut Vec<i64>) {
+fn spoil_numbers(random: &mut Random, numbers: &mut Vec<i64>, highest: i64) {
     const WAYS: usize = 5;
-    let over = numbers.len() as i64 + 1;
+    let over = highest + 1;
     let index = random.below(numbers.len());
     let number = numbers[index];
     match random.below(WAYS) {

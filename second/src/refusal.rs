@@ -26,8 +26,8 @@ pub const OUT_OF_PLACE: u64 = 12;
 pub const VARIABLE_OVER: u64 = 13;
 pub const GIVEN_BEFORE: u64 = 14;
 pub const NOT_FINISHED: u64 = 15;
-pub const NOT_GIVEN: u64 = 16;
-pub const CLAUSE_FALSE: u64 = 17;
+/// A clause without a true literal among those named; 16 is never given.
+pub const NO_TRUE_LITERAL: u64 = 17;
 pub const SAYS_UNSATISFIABLE: u64 = 18;
 pub const SAYS_UNKNOWN: u64 = 19;
 pub const ENTRY_OVER: u64 = 20;

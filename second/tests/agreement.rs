@@ -8,9 +8,10 @@ use second::answers::{phase_of, reply, write_answer};
 use second::cases::{Maker, Options};
 use second::clauses::formula;
 use second::draft::{draft, planned, Size};
-use second::numbering::{words_needed, Numbering};
+use second::numbering::{words_needed, FormulaVariable, Numbering};
 use second::protocol::*;
 use second::random::Random;
+use second::rows::bit;
 use second::solver_lines::Phase;
 use second::task_file::judge;
 use std::collections::BTreeSet;
@@ -101,7 +102,34 @@ fn refusals_change_nothing_and_every_one_comes() {
             assert_eq!(before, after);
         }
     }
-    assert_eq!(numbers, (0..=22).collect());
+    let never_given = 16;
+    assert_eq!(numbers, (0..=22).filter(|&number| number != never_given).collect());
+}
+
+/// Whether a model leaves variables out, and whether the true row has bits of
+/// such variables.
+fn leaves_out(case: &Case) -> (bool, bool) {
+    let Ok(formula) = formula(&case.file, case.horizon) else {
+        return (false, false);
+    };
+    let variables = (1..=formula.counts().variables).map(FormulaVariable);
+    let unnamed: Vec<_> = variables.filter(|&variable| !bit(&case.given, variable)).collect();
+    (!unnamed.is_empty(), unnamed.iter().any(|&variable| bit(&case.truth, variable)))
+}
+
+#[test]
+fn accepted_models_that_leave_variables_out_come_often() {
+    let (mut accepted, mut partial, mut with_true_bits) = (0, 0, 0);
+    for mut case in stream(6, 12_000).filter(|case| case.kind == Kind::End) {
+        if reply(&mut case).number == 0 {
+            let (leaves_out, true_bits) = leaves_out(&case);
+            accepted += 1;
+            partial += usize::from(leaves_out);
+            with_true_bits += usize::from(true_bits);
+        }
+    }
+    let enough = partial > accepted / 4 && partial < accepted && with_true_bits > partial / 4;
+    assert!(enough, "{accepted}, {partial}, {with_true_bits}");
 }
 
 #[test]

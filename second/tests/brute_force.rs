@@ -13,12 +13,26 @@ const MOST_VARIABLES: u64 = 16;
 #[test]
 fn random_small_tasks_pair_off() {
     let mut random = Random::new(3);
-    let (mut satisfiable, mut not) = (0, 0);
+    let (mut satisfiable, mut not, mut partial) = (0, 0, 0);
     for _ in 0..150 {
         let found = pair_off_any(&mut random, MOST_VARIABLES).unwrap();
         *(if found.assignments > 0 { &mut satisfiable } else { &mut not }) += 1;
+        partial += found.partial;
     }
     assert!(satisfiable > 20 && not > 5, "{satisfiable} and {not}");
+    assert!(partial > 100, "only {partial} models leave variables out");
+}
+
+#[test]
+fn an_action_that_changes_nothing_is_left_out_at_an_empty_step() {
+    let keep = action(&[(0, 0)], &[(0, 0)]);
+    let change = action(&[(0, 0)], &[(0, 1)]);
+    let file = draft_of(&[2], &[(0, 0)], &[keep, change]).file();
+    // Each of the two steps is empty, empty with `keep` left out, or `keep`.
+    let found = pair_off(&file, 2).unwrap();
+    assert_eq!((found.assignments, found.partial), (4, 5));
+    // No step is empty in the folder example's only good schedule.
+    assert_eq!(count_partial(&judge(&folder()).unwrap(), 2), 0);
 }
 
 #[test]

@@ -1,4 +1,4 @@
-//! One test for each decided reading, 1 to 22 with 12a and 12b.
+//! One test for each decided reading, 1 to 22 with 12a and 12b, 32 and 33.
 
 mod common;
 
@@ -164,8 +164,6 @@ fn reading_9_the_room_for_text_and_literals() {
 #[test]
 fn reading_10_what_details_count_from() {
     let file = folder();
-    let no_variable = end(&file, 0, state(4, Phase::Closed), (&[0b1110], &[0]), &mut []);
-    assert_eq!(no_variable, refused(16, 1));
     assert_eq!(end_with(&file, 1, Phase::Closed, 10, &[0]), refused(17, 0));
     assert_eq!(walk(&file, 2, &[0, 3]), refused(20, 2));
     assert_eq!(walk(&file, 2, &[1, 1]), refused(21, 2));
@@ -364,10 +362,9 @@ fn reading_19_the_order_at_the_end() {
         assert_eq!(end_with(&file, 2, phase, 16, &[0]), refused(number, 0));
         assert_eq!(end_with(&file, 2, phase, 1, &[0]), refused(number, 0));
     }
-    assert_eq!(end_with(&file, 2, Closed, 15, &[0]), refused(16, 16));
     assert_eq!(end_with(&file, 2, Closed, 16, &[0]), refused(17, 0));
-    let cut = "s SATISFIABLE\nv 1 -2 3 -4 5 -6 -7 8 9 0\n";
-    assert_eq!(printed_schedule(&model_input(2, &file, cut)), "refused 16 10\n");
+    let closed_early = "s SATISFIABLE\nv 1 -2 3 -4 5 -6 -7 8 9 0\n";
+    assert_eq!(printed_schedule(&model_input(2, &file, closed_early)), "refused 17 2\n");
 }
 
 #[test]
@@ -407,4 +404,48 @@ fn reading_22_long_and_empty_lines() {
     assert_eq!(lines_of(b"a\n"), [b"a"]);
     assert_eq!(lines_of(b"a\nb"), [b"a", b"b"]);
     assert!(lines_of(b"").is_empty());
+}
+
+/// What the model program prints for a folder model at horizon 2 of these
+/// literals.
+fn folder_model(literals: &[i64]) -> String {
+    let words: String = literals.iter().map(|literal| format!(" {literal}")).collect();
+    printed_schedule(&model_input(2, &folder(), &format!("s SATISFIABLE\nv{words} 0\n")))
+}
+
+#[test]
+fn reading_32_a_clause_counts_by_named_literals_alone() {
+    let model = [1, -2, 3, -4, 5, -6, -7, 8, 9, -10, -11, 12, 13, -14, -15, 16];
+    let without = |left_out: &[i64]| -> Vec<i64> {
+        model.into_iter().filter(|literal| !left_out.contains(literal)).collect()
+    };
+    assert_eq!(folder_model(&without(&[])), "1\n2\n");
+    // -1 -2, -6 2 and -11 7 are true by the variable that is left out alone.
+    assert_eq!(folder_model(&without(&[-2])), "refused 17 9\n");
+    assert_eq!(folder_model(&without(&[-6])), "refused 17 16\n");
+    assert_eq!(folder_model(&without(&[-11])), "refused 17 18\n");
+    assert_eq!(folder_model(&without(&[-6, -2, -11])), "refused 17 9\n");
+    assert_eq!(folder_model(&without(&model)), "refused 17 0\n");
+    // Of a false clause and one without a named literal the lower number wins.
+    assert_eq!(folder_model(&[without(&[-2, 16]), vec![-16]].concat()), "refused 17 2\n");
+    assert_eq!(folder_model(&[without(&[-2, 12]), vec![-12]].concat()), "refused 17 9\n");
+}
+
+#[test]
+fn reading_33_an_action_that_would_change_nothing_may_be_left_out() {
+    // Value 0 and 1 at step 1 are 1 and 2, the actions 3 and 4, the values at step 2 5 and 6.
+    let keeps = [action(&[], &[(0, 0)]), action(&[(0, 0)], &[])];
+    let file = draft_of(&[2], &[(0, 0)], &keeps).file();
+    let ended = |given: &[u64], truth: &[u64]| {
+        let mut entries = [9];
+        let rows = (&bits(given)[..], &bits(truth)[..]);
+        end(&file, 1, state(6, Phase::Closed), rows, &mut entries).map(|()| entries[0])
+    };
+    assert_eq!(ended(&[1, 2, 3, 4, 5, 6], &[1, 5]), Ok(0));
+    // Its true bit does not make the action a move.
+    assert_eq!(ended(&[1, 2, 4, 5, 6], &[1, 3, 5]), Ok(0));
+    assert_eq!(ended(&[1, 2, 3, 5, 6], &[1, 4, 5]), Ok(0));
+    assert_eq!(ended(&[1, 2, 3, 4, 5, 6], &[1, 3, 5]), Ok(1));
+    // Both at one step leave "not both actions", clause 10, without a true literal.
+    assert_eq!(ended(&[1, 2, 5, 6], &[1, 5]), refused(17, 10));
 }

@@ -80,8 +80,8 @@ fn the_model_program_reads_planned_schedules_of_every_size() {
         let highest = formula.counts().variables;
         let words = second::numbering::words_needed(highest) as usize;
         let (_, truth) = model_of(&file, horizon as u64, &plan.schedule, words).unwrap();
-        let value = |variable| bit(&truth, second::numbering::FormulaVariable(variable));
-        let model: Vec<bool> = (1..=highest).map(value).collect();
+        let value = |variable| Some(bit(&truth, second::numbering::FormulaVariable(variable)));
+        let model: Vec<Option<bool>> = (1..=highest).map(value).collect();
         let lines = output(&mut random, &model, false);
         // A CR before the LF is a fault of its own; it is not meant here.
         let lines = String::from_utf8(lines).unwrap().replace('\r', "");

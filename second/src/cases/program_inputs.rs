@@ -27,7 +27,7 @@ impl Maker {
 
     pub fn fill_model_program(&mut self, case: &mut Case) {
         let subject = self.subject();
-        let output = match subject.model() {
+        let output = match self.model(&subject) {
             Some(model) => {
                 let faults = self.random.coin();
                 output(&mut self.random, &model, faults)

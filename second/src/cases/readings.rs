@@ -1,6 +1,7 @@
 //! Cases about readings: their start, their lines and their end.
 
 use super::lent::fitted;
+use super::subjects::Subject;
 use super::*;
 use crate::limits::*;
 use crate::numbering::{words_needed, FormulaVariable};
@@ -15,7 +16,7 @@ const ANY_PHASE: [u64; 5] = [NO_STATUS, SATISFIABLE_OPEN, CLOSED, UNSATISFIABLE,
 
 type Spoil = fn(&mut Maker, &mut Case, FormulaVariable);
 
-/// A reading that is not finished, not complete, or not a model.
+/// A reading that is not finished, leaves a variable out, or is not a model.
 const SPOILS: [(usize, Spoil); 8] = [
     (2, Maker::other_phase),
     (4, Maker::take_variable),
@@ -89,7 +90,7 @@ impl Maker {
             case.asked = self.piece_bytes();
         }
         let subject = self.subject();
-        match subject.model() {
+        match self.model(&subject) {
             Some(model) if self.random.coin() => {
                 case.highest = model.len() as u64;
                 case.given = vec![0; words_needed(case.highest) as usize];
@@ -121,10 +122,7 @@ impl Maker {
         case.horizon = subject.horizon;
         case.highest = subject.highest().unwrap_or(SOME_HIGHEST);
         case.phase = CLOSED;
-        (case.given, case.truth) = match subject.model_rows() {
-            Some(rows) => rows,
-            None => (self.stale_row(case.highest), self.stale_row(case.highest)),
-        };
+        self.put_model(case, &subject);
         case.file = subject.file;
         let steps = subject.schedule.len();
         let other = self.room_length(steps).min(MOST_ENTRIES);
@@ -140,12 +138,27 @@ impl Maker {
         }
     }
 
+    /// Rows of the subject's model, some variables left out.
+    fn put_model(&mut self, case: &mut Case, subject: &Subject) {
+        let Some((given, truth)) = subject.model_rows() else {
+            case.given = self.stale_row(case.highest);
+            case.truth = self.stale_row(case.highest);
+            return;
+        };
+        (case.given, case.truth) = (given, truth);
+        for variable in self.left_out(subject) {
+            self.take_variable(case, variable);
+        }
+    }
+
     fn other_phase(&mut self, case: &mut Case, _: FormulaVariable) {
         case.phase = self.random.pick(&ANY_PHASE);
     }
 
+    /// What stands in the true row then must not count.
     fn take_variable(&mut self, case: &mut Case, variable: FormulaVariable) {
         set_bit(&mut case.given, variable, false);
+        set_bit(&mut case.truth, variable, self.random.coin());
     }
 
     fn turn_variable(&mut self, case: &mut Case, variable: FormulaVariable) {

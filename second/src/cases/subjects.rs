@@ -6,7 +6,7 @@ use crate::clauses::{formula, Formula};
 use crate::damage::damaged_file;
 use crate::draft::{planned, Draft, Planned, Size};
 use crate::limits::MOST_HORIZON;
-use crate::numbering::{words_needed, FormulaVariable};
+use crate::numbering::{words_needed, ActionNumber, FormulaVariable};
 use crate::protocol::Case;
 use crate::rows::bit;
 use crate::schedule::way_back;
@@ -16,8 +16,22 @@ pub struct Subject {
     pub file: Vec<u8>,
     pub horizon: u64,
     pub schedule: Vec<u64>,
+    /// Steps and actions that a model may leave out.
+    needless: Vec<(u64, usize)>,
     pub size: Size,
 }
+
+/// How many actions that do not matter, how many moves, and how many of all
+/// variables are left out of a model.
+const LEFT_OUT: [(usize, [usize; 3]); 7] = [
+    (5, [0, 0, 0]),
+    (4, [1, 0, 0]),
+    (2, [3, 0, 0]),
+    (1, [1, 0, 1]),
+    (1, [0, 1, 0]),
+    (1, [0, 0, 1]),
+    (1, [0, 0, 3]),
+];
 
 /// In a hundred; the largest tasks cost the most and come least often.
 const SIZES: [(usize, Size); 6] = [
@@ -45,15 +59,52 @@ impl Subject {
         Some((given, truth))
     }
 
-    /// The same as a value for each variable.
-    pub fn model(&self) -> Option<Vec<bool>> {
-        let (_, truth) = self.model_rows()?;
-        let value = |variable| bit(&truth, FormulaVariable(variable));
-        Some((1..=self.highest()?).map(value).collect())
+    /// The schedule's moves: steps from 1, and actions from 0.
+    fn moves(&self) -> Vec<(u64, usize)> {
+        let entries = (1..).zip(&self.schedule).filter(|&(_, &entry)| entry > 0);
+        entries.map(|(step, &entry)| (step, entry as usize - 1)).collect()
     }
 }
 
+/// The formula variables of actions at steps, as far as a damage left them in
+/// the formula.
+fn action_variables(formula: &Formula, actions: &[(u64, usize)]) -> Vec<FormulaVariable> {
+    let number = |&(step, a)| formula.numbering.action_at(ActionNumber(a), step);
+    let highest = formula.counts().variables;
+    actions.iter().map(number).filter(|variable| variable.0 <= highest).collect()
+}
+
 impl Maker {
+    /// Variables to be left out of a subject's model.
+    pub fn left_out(&mut self, subject: &Subject) -> Vec<FormulaVariable> {
+        let Ok(formula) = formula(&subject.file, subject.horizon) else {
+            return Vec::new();
+        };
+        let needless = action_variables(&formula, &subject.needless);
+        let moves = action_variables(&formula, &subject.moves());
+        let all = (1..=formula.counts().variables).map(FormulaVariable).collect();
+        let counts = self.random.weighted(&LEFT_OUT);
+        let mut left_out = Vec::new();
+        for (variables, count) in [needless, moves, all].iter().zip(counts) {
+            if !variables.is_empty() {
+                left_out.extend((0..count).map(|_| self.random.pick(variables)));
+            }
+        }
+        left_out
+    }
+
+    /// The model of a subject, if it has one, some variables left out: the
+    /// value of each variable that is named.
+    pub fn model(&mut self, subject: &Subject) -> Option<Vec<Option<bool>>> {
+        let (_, truth) = subject.model_rows()?;
+        let value = |variable| Some(bit(&truth, FormulaVariable(variable)));
+        let mut model: Vec<_> = (1..=subject.highest()?).map(value).collect();
+        for variable in self.left_out(subject) {
+            model[variable.0 as usize - 1] = None;
+        }
+        Some(model)
+    }
+
     pub fn size(&mut self) -> Size {
         self.random.weighted(&SIZES)
     }
@@ -82,7 +133,7 @@ impl Maker {
         const DAMAGED_ONCE_IN: usize = 6;
         const OTHER_GOAL_ONCE_IN: usize = 8;
         let good = self.good_horizon();
-        let Planned { mut draft, schedule } = planned(&mut self.random, size, good);
+        let Planned { mut draft, schedule, needless } = planned(&mut self.random, size, good);
         if self.random.once_in(OTHER_GOAL_ONCE_IN) {
             self.change_goal(&mut draft);
         }
@@ -94,7 +145,7 @@ impl Maker {
             true => self.odd_horizon(good as u64),
             false => good as u64,
         };
-        Subject { file, horizon, schedule, size }
+        Subject { file, horizon, schedule, needless, size }
     }
 
     /// Another value for one goal pair, which the schedule may not reach.
