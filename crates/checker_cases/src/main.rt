@@ -4,7 +4,7 @@
 use rules::Phase;
 use rules::Reading;
 use rules::Verdict;
-ghost use Prim.Native.Nat.{_≤_};
+ghost use Prim.Native.Nat.{_<_, _≤_};
 
 const ALL: u64 = 18446744073709551615;
 
