@@ -30,6 +30,7 @@ use Rattle.rules.specs.declared.Verdict.the-variants.{Accepted}
 use Rattle.rules.specs.declared.Phase.{Phase}
 use Rattle.rules.specs.declared.Phase.the-variants.{ModelClosed}
 use Rattle.rules.proofs.Endings.{ModelHolds}
+use Rattle.rules.proofs.Unnamed.{Unnamed}
 use Rattle.formula.specs.declared.calls.CountsAnswer.{CountsAnswer}
 use Rattle.formula.specs.declared.calls.CountsAnswer.the-variants.{Found}
 use Rattle.formula.specs.declared.calls.LiteralsAnswer.{LiteralsAnswer}
@@ -116,6 +117,8 @@ module _ (file : List ℕ) (k : ℕ) where
     pub model : (rows : Rows) (entries after : List ℕ) (verdict : Verdict) → Ended file k ModelClosed rows entries verdict after
         → Enough rows entries → (verdict ≡ Accepted) ↔ (satisfies (modelIn rows) (formula P) ≡ true)
     pub nothing-else : (phase : Phase) (rows : Rows) (entries after : List ℕ) → Ended file k phase rows entries Accepted after → ModelHolds P phase rows
+    pub left-unnamed : (phase : Phase) (rows : Rows) (entries after : List ℕ) → Ended file k phase rows entries Accepted after
+        → Unnamed (taskOf file) k (modelIn rows)
     pub becomes-schedule : (phase : Phase) (rows : Rows) (entries after : List ℕ) → Ended file k phase rows entries Accepted after
         → after ≡ scheduleOf P (assigned (completion P (modelIn rows))) ++ drop k entries
     pub schedule : (entries : List ℕ) (rows after : Rows) (verdict : Verdict) → WentBack file k entries rows verdict after

@@ -45,6 +45,8 @@ use Rattle.formula.specs.declared.calls.LiteralsAnswer.{LiteralsAnswer}
 use Rattle.formula.specs.Said.{countsAnswer}
 use Rattle.formula.proofs.Demand.{Promised, the-formula, the-counts}
 use Rattle.schedule.proofs.Answered.{accepts-exactly}
+use Rattle.rules.proofs.Unnamed.{Unnamed, unnamed}
+use Rattle.rules.proofs.Files.{accepted-valid}
 use Rattle.demands.proofs.Demands.{Counted, Spelled, Ended, WentBack, Demand2, Demand3}
 
 -- ---- what the calls gave, by the definitions
@@ -112,6 +114,10 @@ module _ (file : List ℕ) (fine : fileVerdict file ≡ Accepted) (k : ℕ) (sma
     holds : ModelHolds P phase rows
     holds = end-holds phase rows entries (ended-verdict file k phase rows entries Accepted after e)
 
+    left : Unnamed T k (modelIn rows)
+    unfolding problemOf
+    left = unnamed T (accepted-valid file fine) k (modelIn rows) (holds .all-true)
+
     writes : after ≡ scheduleOf P (modelIn rows) ++ drop k entries
     writes =
         ended-entries file k phase rows entries Accepted after e
@@ -154,6 +160,7 @@ module _ (file : List ℕ) (fine : fileVerdict file ≡ Accepted) (k : ℕ) (sma
             let exactly = answers .model ModelClosed rows entries (enough .rows-fit) (enough .entries-fit) in
             (λ h. exactly .0 (same ∙ h) .all-true, λ t. sym same ∙ exactly .1 (record { closed = refl; all-true = t }));
         nothing-else = holds;
+        left-unnamed = λ phase rows entries after e. left phase rows entries after e;
         becomes-schedule = λ phase rows entries after e.
             writes phase rows entries after e ∙ ap (λ schedule. schedule ++ drop k entries) (completed-schedule P (modelIn rows));
         schedule = λ entries rows after verdict e enough.

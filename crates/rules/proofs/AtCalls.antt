@@ -1,5 +1,5 @@
 -- Demands 2 and 3 over the calls, for an accepted file and a horizon from 0 to 64 with room enough lent: what each call accepts, what it writes, and
--- that the end of a reading and the way back undo each other.
+-- that the end of a reading and the way back lead from a model to its completion and from a schedule to itself.
 -- Assumes nothing.
 use mathlib.Core.Path.{_≡_, refl, sym, ap, _∙_}
 use mathlib.Core.Logic.{_↔_}

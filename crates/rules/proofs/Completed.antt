@@ -65,6 +65,15 @@ module _ (P : Problem) where
       let at : suc (v - 1) ≡ v = omega arith in
       getD-table (N P) (λ i. literalTrue M (plus (suc i))) false (v - 1) (omega arith) ∙ ap (λ v. literalTrue M (plus v)) at
 
+  -- in it an unnamed variable is false, and a named one is as it is named
+  pub unnamed-false : (M : Model) (i : ℕ) → i < N P → M .given (suc i) ≡ false → getD (completion P M) i false ≡ false
+  unfolding completion literalTrue
+  unnamed-false M i l g = getD-table (N P) _ false i l ∙ rw g refl
+
+  pub named-kept : (M : Model) (i : ℕ) → i < N P → M .given (suc i) ≡ true → getD (completion P M) i false ≡ M .isTrue (suc i)
+  unfolding completion literalTrue
+  named-kept M i l g = getD-table (N P) _ false i l ∙ rw g refl
+
   -- an assignment is its own completion
   pub own-completion : (bits : List Bool) → length bits ≡ N P → completion P (assigned bits) ≡ bits
   unfolding completion literalTrue

@@ -1,11 +1,16 @@
--- The end of a reading in words: a closed model is accepted exactly if every clause has a true literal among those named.
+-- The end of a reading in words: a closed model is accepted exactly if every clause has a true literal among those named, and else refused with 17 and
+-- the lowest clause that has none.
 -- Assumes nothing.
 use mathlib.Core.Path.{_≡_, refl, sym, ap, _∙_}
-use mathlib.Core.Bool.{true, false, not}
+use mathlib.Core.Logic.{_↔_, ⊎-elim}
+use mathlib.Core.Bool.{Bool, true, false, not}
 use mathlib.Core.List.{[]}
 use Prim.Native.Nat.{ℕ, _<_}
+use native.Mathlib.Omega.{arith}
+use borrow.Author.Tests.{eqb-true, eqb-false}
 use lib.Dec.{eqb}
-use Rattle.rules.specs.Answers.{judge, answerOf}
+use Rattle.rules.specs.Counting.{first}
+use Rattle.rules.specs.Answers.{answerOf, answerTo}
 use Rattle.rules.specs.Problem.{Problem}
 use Rattle.rules.specs.Families.{C, clause, formula}
 use Rattle.rules.specs.Rows.{Rows}
@@ -13,12 +18,12 @@ use Rattle.rules.specs.Truth.{clauseTrue, satisfies, modelIn}
 use Rattle.rules.specs.Output.{ending, modelRules, outcome}
 use Rattle.rules.specs.declared.Refusal.{Refusal}
 use Rattle.rules.specs.declared.Refusal.the-variants.{FileLength, ContentsRow, BodyLength, DomainSize, StartValue, GoalPair, ActionAtFault, Horizon, ClauseNumber, Room, Grammar, OutOfPlace, OverN, GivenBefore, Unfinished, FalseClause, Unsatisfiable, Unknown, EntryOverA, DoesNotApply, GoalUnmet, AgainstFormat, AxiomOrCondition, OtherVersion}
-use Rattle.rules.specs.declared.Verdict.the-variants.{Accepted}
+use Rattle.rules.specs.declared.Verdict.the-variants.{Accepted, Refused}
 use Rattle.rules.specs.declared.Phase.{Phase}
 use Rattle.rules.specs.declared.Phase.the-variants.{NoStatus, ModelOpen, ModelClosed, SaidUnsatisfiable, SaidUnknown}
-use Rattle.rules.proofs.Bools.{not-false}
-use Rattle.rules.proofs.Counting.{none-at, none-test, every-by, every-getD}
-use Rattle.rules.proofs.Judging.{refused-not, judge-head, judge-cons, judge-nil, inTurn-left, inTurn-right, inTurn-both}
+use Rattle.rules.proofs.Bools.{either, not-true, not-false}
+use Rattle.rules.proofs.Counting.{first-le, first-at, first-before, first-is, none-at, none-test, every-by, every-getD}
+use Rattle.rules.proofs.Judging.{refused-not, judge-head, judge-cons, judge-nil, judge-refused, judge-passed, inTurn-left, inTurn-right, inTurn-both}
 
 -- the status says SATISFIABLE, the model is closed, and every clause is true by a literal that it names
 pub record ModelHolds (P : Problem) (phase : Phase) (rows : Rows) : Type 0 where
@@ -52,6 +57,56 @@ module _ (P : Problem) (rows : Rows) where
       (none-test (C P) (λ c. not (clauseTrue (modelIn rows) (clause P c)))
       (λ i l. ap not (every-getD (clauseTrue (modelIn rows)) (formula P) [] (m .all-true) i l)))
       judge-nil)
+
+-- ---- 17: the lowest clause without a true literal among those named
+
+module _ (P : Problem) (rows : Rows) where
+  -- clause c is there and has no true literal among those named, and each before it has one
+  pub record LowestUnmet (c : ℕ) : Type 0 where
+    pub there : c < C P
+    pub unmet : clauseTrue (modelIn rows) (clause P c) ≡ false
+    pub met-before : (i : ℕ) → i < c → clauseTrue (modelIn rows) (clause P i) ≡ true
+
+  abbrev isUnmet : ℕ → Bool
+  isUnmet c = not (clauseTrue (modelIn rows) (clause P c))
+
+  abbrev lowest : ℕ
+  lowest = first (C P) isUnmet
+
+  lowest-is : lowest < C P → LowestUnmet lowest
+  lowest-is l =
+      record {
+        there = l;
+        unmet = not-true _ (first-at (C P) isUnmet l);
+        met-before = λ i h. not-false _ (first-before (C P) isUnmet i h);
+      }
+
+  refuses : eqb lowest (C P) ≡ false → outcome P ModelClosed rows ≡ Refused (FalseClause lowest)
+  unfolding outcome modelRules
+  refuses f = judge-refused _ _ f
+
+  accepts : eqb lowest (C P) ≡ true → outcome P ModelClosed rows ≡ Accepted
+  unfolding outcome modelRules
+  accepts t = judge-passed _ _ t ∙ judge-nil
+
+  pub seventeen : (c : ℕ) → (outcome P ModelClosed rows ≡ Refused (FalseClause c)) ↔ LowestUnmet c
+  seventeen c = (
+    λ h.
+        ⊎-elim (λ t. refused-not (sym h ∙ accepts t))
+        (λ f.
+        let apart : lowest ≡ C P → ⊥ = eqb-false _ _ f in
+        let is : lowest ≡ c = ap (λ v. answerTo v .detail) (sym (refuses f) ∙ h) in
+        let below : lowest < C P = omega (arith, first-le (C P) isUnmet) in
+        rw is at (lowest-is below))
+        (either (eqb lowest (C P))),
+    λ l.
+        let is : lowest ≡ c = first-is (C P) isUnmet c (l .there) (ap not (l .unmet)) (λ i h. ap not (l .met-before i h)) in
+        ⊎-elim (λ t. let e : lowest ≡ C P = eqb-true _ _ t in absurd (let b = l .there in omega arith))
+        (λ f. refuses f ∙ ap (λ c. Refused (FalseClause c)) is)
+        (either (eqb lowest (C P))),
+  )
+
+-- ---- 16
 
 -- no refusal has the number 16: it stood for a variable that is not given
 pub never-16 : (why : Refusal) → eqb (answerOf why .number) 16 ≡ false

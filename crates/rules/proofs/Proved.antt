@@ -18,9 +18,9 @@ use Rattle.rules.specs.Readings.{scheduleOf, assignmentOf, rowsOf}
 use Rattle.rules.proofs.Valid.{WellFormed, valid-well-formed}
 use Rattle.rules.proofs.Bits.{packed-bit}
 use Rattle.rules.proofs.Counts.{counts, C-is}
-use Rattle.rules.proofs.Endings.{accepted-holds, holds-accepted}
+use Rattle.rules.proofs.Endings.{accepted-holds, holds-accepted, seventeen}
 use Rattle.rules.proofs.Schedules.{carried-out, out-carried, length-assignment, length-schedule, assignment-good, schedule-back}
-use Rattle.rules.proofs.Completed.{own-completion, completed-schedule, completed-true, model-good, model-back}
+use Rattle.rules.proofs.Completed.{length-completion, unnamed-false, named-kept, own-completion, completed-schedule, completed-true, model-good, model-back}
 use Rattle.rules.proofs.Plans.{movesOf, moves-most, schedule-plan, padded, length-padded, plan-schedule}
 use Rattle.rules.proofs.Demands.{Demand2, Satisfying, Demand3}
 
@@ -33,6 +33,7 @@ demand2 T k =
       counted = counts T k;
       header = ap (λ c. ascii "p cnf " ++ decimal (N P) ++ (space ∷ []) ++ decimal c ++ (lf ∷ [])) (C-is T k);
       model = λ phase rows. (accepted-holds P rows phase, holds-accepted P rows phase);
+      refused = λ rows c. seventeen P rows c;
       states = completed-schedule P;
       schedule = λ entries. (carried-out T k entries, out-carried T k entries);
       rows-hold = λ entries rows i l. (
@@ -48,7 +49,9 @@ demand3 T valid k =
     let satisfying : (entries : List ℕ) → CarriedOut T k entries → Satisfying T k (assigned (assignmentOf P entries)) =
     λ entries c. assignment-good T k fine entries c in
     record {
-      completed = completed-true T fine k;
+      completed = λ M t. (length-completion P M, completed-true T fine k M t);
+      unnamed-false = unnamed-false P;
+      named-kept = named-kept P;
       own-completion = own-completion P;
       to-schedule = λ M t. record { entries = length-schedule T k M; carried = model-good T fine k M t };
       to-assignment = λ entries g. (length-assignment T k entries, satisfying entries (g .carried));

@@ -123,6 +123,10 @@ module _ (P : Problem) where
 
   -- ---- models that agree on 1 to N
 
+  -- the model that says one thing of all variables: a literal's truth hangs on what is said of its own
+  abbrev saying : (given isTrue : Bool) → Model
+  saying given isTrue = record { given = λ v. given; isTrue = λ v. isTrue }
+
   pub record Agree (M M′ : Model) : Type 0 where
     pub given-alike : (v : ℕ) → 1 ≤ v → v ≤ N P → M .given v ≡ M′ .given v
     pub true-alike : (v : ℕ) → 1 ≤ v → v ≤ N P → M .isTrue v ≡ M′ .isTrue v
@@ -130,8 +134,8 @@ module _ (P : Problem) where
   module _ (M M′ : Model) (agree : Agree M M′) where
     literal-alike : (l : Literal) → 1 ≤ variableIn l → variableIn l ≤ N P → literalTrue M l ≡ literalTrue M′ l
     unfolding literalTrue
-    literal-alike (plus v) low up = ap₂ _&&_ (agree .given-alike v low up) (agree .true-alike v low up)
-    literal-alike (minus v) low up = ap₂ _&&_ (agree .given-alike v low up) (ap not (agree .true-alike v low up))
+    literal-alike (plus v) low up = ap₂ (λ g t. literalTrue (saying g t) (plus v)) (agree .given-alike v low up) (agree .true-alike v low up)
+    literal-alike (minus v) low up = ap₂ (λ g t. literalTrue (saying g t) (minus v)) (agree .given-alike v low up) (agree .true-alike v low up)
 
     pub satisfied-alike : WellFormed (P .task) → satisfies M (formula P) ≡ satisfies M′ (formula P)
     satisfied-alike fine =
