@@ -93,8 +93,8 @@ size_t wawrolen_read_bytes(size_t highest, size_t *phase, size_t *held, uint64_t
 size_t wawrolen_read_rest(size_t highest, size_t *phase, size_t held, uint64_t *given, size_t given_length, uint64_t *truth,
                           size_t truth_length, const uint8_t *line, size_t line_length, size_t *detail);
 
-/* Ends a reading: writes the schedule, an entry a step, that an accepted model states, which is one that gives each clause a true literal;
- * variables that were not given count as false for the schedule, and for no clause: refusals 1 to 8, 10, 15 and 17 to 19. */
+/* Ends a reading: writes the schedule, an entry a step, that an accepted model states. A variable that was not given makes no clause true, and counts as
+ * false in the schedule. Refusals 1 to 8, 10, 15 and 17 to 19. */
 size_t wawrolen_end_reading(const uint8_t *file, size_t file_length, size_t horizon, size_t phase, const uint64_t *given,
                             size_t given_length, const uint64_t *truth, size_t truth_length, uint32_t *entries,
                             size_t entries_length, size_t *detail);

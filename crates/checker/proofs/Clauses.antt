@@ -1,4 +1,4 @@
--- What leaves the clauses of each family without a true literal among those named.
+-- When the clauses of each family are unmet.
 -- Assumes nothing.
 use mathlib.Core.Path.{_≡_, refl, ap, ap₂, _∙_}
 use mathlib.Core.Logic.{⊎-elim}
@@ -23,7 +23,7 @@ use Rattle.rules.proofs.Counting.{sumTo-const, any-forEach, one-of}
 use Rattle.rules.proofs.Pairs.{PairAt}
 use Rattle.rules.proofs.ByNumber.{clausesBefore, clause1, clause2, clause3, clause4, clause5, clause6, clause7, clause8}
 use Rattle.rows.specs.Bits.{countsTrue}
-use Rattle.checker.specs.Order.{holdsAt, pairAt, actsAt, isFalse, stepsOf, itemsOf, clausesOf, stepClauses, firstClause}
+use Rattle.checker.specs.Order.{holdsAt, pairAt, actsAt, isUnmet, stepsOf, itemsOf, clausesOf, stepClauses, firstClause}
 
 first-not : (a b : Bool) → not (not a || (b || false)) ≡ (a && not b)
 first-not true true = refl
@@ -44,46 +44,46 @@ first-not-and false b c = refl
 
 module _ (rows : Rows) where
   -- the variables that are named true, and those that are not named false
-  abbrev isNamed : ℕ → Bool
-  isNamed = countsTrue false rows
+  abbrev isNamedTrue : ℕ → Bool
+  isNamedTrue = countsTrue false rows
 
-  abbrev isOpen : ℕ → Bool
-  isOpen = countsTrue true rows
+  abbrev notNamedFalse : ℕ → Bool
+  notNamedFalse = countsTrue true rows
 
-  pub literal-plus : (v : ℕ) → literalTrue (modelIn rows) (plus v) ≡ isNamed v
+  pub literal-plus : (v : ℕ) → literalTrue (modelIn rows) (plus v) ≡ isNamedTrue v
   unfolding literalTrue countsTrue
   literal-plus v = ⊎-elim (λ t. rw t refl) (λ t. rw t refl) (either (bitOfVariable (rows .given) v))
 
-  literal-minus : (v : ℕ) → literalTrue (modelIn rows) (minus v) ≡ not (isOpen v)
+  literal-minus : (v : ℕ) → literalTrue (modelIn rows) (minus v) ≡ not (notNamedFalse v)
   unfolding literalTrue countsTrue
   literal-minus v = ⊎-elim (λ t. rw t refl) (λ t. rw t refl) (either (bitOfVariable (rows .given) v))
 
-  one-plus : (v : ℕ) → not (clauseTrue (modelIn rows) (plus v ∷ [])) ≡ not (isNamed v)
+  one-plus : (v : ℕ) → not (clauseTrue (modelIn rows) (plus v ∷ [])) ≡ not (isNamedTrue v)
   unfolding clauseTrue any
-  one-plus v = ap (λ b. not (b || false)) (literal-plus v) ∙ ⊎-elim (λ t. rw t refl) (λ t. rw t refl) (either (isNamed v))
+  one-plus v = ap (λ b. not (b || false)) (literal-plus v) ∙ ⊎-elim (λ t. rw t refl) (λ t. rw t refl) (either (isNamedTrue v))
 
-  minus-plus : (u v : ℕ) → not (clauseTrue (modelIn rows) (minus u ∷ plus v ∷ [])) ≡ (isOpen u && not (isNamed v))
+  minus-plus : (u v : ℕ) → not (clauseTrue (modelIn rows) (minus u ∷ plus v ∷ [])) ≡ (notNamedFalse u && not (isNamedTrue v))
   unfolding clauseTrue any
-  minus-plus u v = ap₂ (λ a b. not (a || (b || false))) (literal-minus u) (literal-plus v) ∙ first-not (isOpen u) (isNamed v)
+  minus-plus u v = ap₂ (λ a b. not (a || (b || false))) (literal-minus u) (literal-plus v) ∙ first-not (notNamedFalse u) (isNamedTrue v)
 
-  minus-minus : (u v : ℕ) → not (clauseTrue (modelIn rows) (minus u ∷ minus v ∷ [])) ≡ (isOpen u && isOpen v)
+  minus-minus : (u v : ℕ) → not (clauseTrue (modelIn rows) (minus u ∷ minus v ∷ [])) ≡ (notNamedFalse u && notNamedFalse v)
   unfolding clauseTrue any
-  minus-minus u v = ap₂ (λ a b. not (a || (b || false))) (literal-minus u) (literal-minus v) ∙ both-not (isOpen u) (isOpen v)
+  minus-minus u v = ap₂ (λ a b. not (a || (b || false))) (literal-minus u) (literal-minus v) ∙ both-not (notNamedFalse u) (notNamedFalse v)
 
   minus-plus-and : (u v : ℕ) (c : Clause) → not (clauseTrue (modelIn rows) (minus u ∷ plus v ∷ c))
-      ≡ (isOpen u && (not (isNamed v) && not (any (literalTrue (modelIn rows)) c)))
+      ≡ (notNamedFalse u && (not (isNamedTrue v) && not (any (literalTrue (modelIn rows)) c)))
   unfolding clauseTrue any
   minus-plus-and u v c =
       ap₂ (λ a b. not (a || (b || any (literalTrue (modelIn rows)) c))) (literal-minus u) (literal-plus v)
-      ∙ first-not-and (isOpen u) (isNamed v) (any (literalTrue (modelIn rows)) c)
+      ∙ first-not-and (notNamedFalse u) (isNamedTrue v) (any (literalTrue (modelIn rows)) c)
 
   -- a clause of positive literals is true if one of them is
-  some-plus : (m : ℕ) (g : ℕ → ℕ) (v : ℕ) → v < m → isNamed (g v) ≡ true → not (clauseTrue (modelIn rows) (table m (λ v. plus (g v)))) ≡ false
+  some-plus : (m : ℕ) (g : ℕ → ℕ) (v : ℕ) → v < m → isNamedTrue (g v) ≡ true → not (clauseTrue (modelIn rows) (table m (λ v. plus (g v)))) ≡ false
   unfolding clauseTrue any
   some-plus m g v h t =
       ap not (any-forEach (literalTrue (modelIn rows)) m (λ v. plus (g v) ∷ []) v h (ap (λ b. b || false) (literal-plus (g v) ∙ t)))
 
-  no-plus : (m : ℕ) (g : ℕ → ℕ) → ((v : ℕ) → v < m → isNamed (g v) ≡ false) → not (clauseTrue (modelIn rows) (table m (λ v. plus (g v)))) ≡ true
+  no-plus : (m : ℕ) (g : ℕ → ℕ) → ((v : ℕ) → v < m → isNamedTrue (g v) ≡ false) → not (clauseTrue (modelIn rows) (table m (λ v. plus (g v)))) ≡ true
   unfolding clauseTrue any
   no-plus m g h =
       ⊎-elim
@@ -111,11 +111,11 @@ module _ (file : List ℕ) (rows : Rows) (k : ℕ) where
   unfolding actsAt actionNumber problemOf
   action-same unnamed s a = refl
 
-  by-clause : (c : ℕ) (cl : Clause) → clause P c ≡ cl → isFalse file k rows c ≡ not (clauseTrue (modelIn rows) cl)
-  unfolding isFalse
+  by-clause : (c : ℕ) (cl : Clause) → clause P c ≡ cl → isUnmet file k rows c ≡ not (clauseTrue (modelIn rows) cl)
+  unfolding isUnmet
   by-clause c cl e = ap (λ cl. not (clauseTrue (modelIn rows) cl)) e
 
-  pub false-start : (x at : ℕ) → x < itemsOf T 0 → at ≡ firstClause T k 0 0 x → isFalse file k rows at ≡ not (holdsAt false file rows 0 x (startValue T x))
+  pub false-start : (x at : ℕ) → x < itemsOf T 0 → at ≡ firstClause T k 0 0 x → isUnmet file k rows at ≡ not (holdsAt false file rows 0 x (startValue T x))
   unfolding itemsOf firstClause stepClauses clausesOf problemOf
   false-start x at hx e =
       by-clause at _ (clause1 P at x hx (omega (arith, sumTo-const x 1, zero-mul (sumTo (n T) (clausesOf T 0)))))
@@ -123,7 +123,7 @@ module _ (file : List ℕ) (rows : Rows) (k : ℕ) where
       ∙ ap not (value-same false 0 x (startValue T x))
 
   pub false-goal : (i at : ℕ) → i < itemsOf T 1 → at ≡ firstClause T k 1 0 i
-      → isFalse file k rows at ≡ not (holdsAt false file rows k (pair (T .goal) i .variable) (pair (T .goal) i .value))
+      → isUnmet file k rows at ≡ not (holdsAt false file rows k (pair (T .goal) i .variable) (pair (T .goal) i .value))
   unfolding itemsOf firstClause stepClauses clausesOf problemOf
   false-goal i at hi e =
       by-clause at _ (clause2 P at i hi (omega (arith, sumTo-const i 1, zero-mul (sumTo (length (T .goal)) (clausesOf T 1)))))
@@ -134,7 +134,7 @@ module _ (file : List ℕ) (rows : Rows) (k : ℕ) where
   valuesAt s x = table (d T x) (λ v. plus (valueNumber P s x v))
 
   some-is : (s x at : ℕ) → s < stepsOf k 2 → x < itemsOf T 2 → at ≡ firstClause T k 2 s x
-      → isFalse file k rows at ≡ not (clauseTrue (modelIn rows) (valuesAt s x))
+      → isUnmet file k rows at ≡ not (clauseTrue (modelIn rows) (valuesAt s x))
   unfolding stepsOf itemsOf firstClause stepClauses clausesOf problemOf
   some-is s x at hs hx e =
       by-clause at _ (clause3 P at s x hs hx (e ∙ ap₂ (λ w r. clausesBefore T k 2 + (s * w + r)) (one-each (n T)) (one-each x)))
@@ -143,15 +143,15 @@ module _ (file : List ℕ) (rows : Rows) (k : ℕ) where
       one-each m = omega (arith, sumTo-const m 1)
 
   pub some-true : (s x at v : ℕ) → s < stepsOf k 2 → x < itemsOf T 2 → at ≡ firstClause T k 2 s x → v < d T x → holdsAt false file rows s x v ≡ true
-      → isFalse file k rows at ≡ false
+      → isUnmet file k rows at ≡ false
   some-true s x at v hs hx e hv t = some-is s x at hs hx e ∙ some-plus rows (d T x) (valueNumber P s x) v hv (value-same false s x v ∙ t)
 
   pub some-false : (s x at : ℕ) → s < stepsOf k 2 → x < itemsOf T 2 → at ≡ firstClause T k 2 s x → ((v : ℕ) → v < d T x → holdsAt false file rows s x v ≡ false)
-      → isFalse file k rows at ≡ true
+      → isUnmet file k rows at ≡ true
   some-false s x at hs hx e f = some-is s x at hs hx e ∙ no-plus rows (d T x) (valueNumber P s x) (λ v hv. value-same false s x v ∙ f v hv)
 
   pub false-values : (s x at r v w : ℕ) → s < stepsOf k 3 → x < itemsOf T 3 → at ≡ firstClause T k 3 s x → PairAt (d T x) r v w
-      → isFalse file k rows (at + r) ≡ (holdsAt true file rows s x v && holdsAt true file rows s x w)
+      → isUnmet file k rows (at + r) ≡ (holdsAt true file rows s x v && holdsAt true file rows s x w)
   unfolding stepsOf itemsOf firstClause stepClauses clausesOf problemOf
   false-values s x at r v w hs hx e p =
       by-clause (at + r) _ (clause4 P (at + r) s x r v w hs hx p (omega arith))
@@ -159,7 +159,7 @@ module _ (file : List ℕ) (rows : Rows) (k : ℕ) where
       ∙ ap₂ _&&_ (value-same true s x v) (value-same true s x w)
 
   pub false-precondition : (s a at i : ℕ) → s < stepsOf k 4 → a < itemsOf T 4 → at ≡ firstClause T k 4 s a → i < clausesOf T 4 a
-      → isFalse file k rows (at + i)
+      → isUnmet file k rows (at + i)
       ≡ (actsAt true file rows s a && not (pairAt file rows s (pair (action T a .preconditions) i)))
   unfolding pairAt stepsOf itemsOf firstClause stepClauses clausesOf problemOf
   false-precondition s a at i hs ha e hi =
@@ -168,7 +168,7 @@ module _ (file : List ℕ) (rows : Rows) (k : ℕ) where
       ∙ ap₂ (λ a b. a && not b) (action-same true s a) (value-same false s (pair (action T a .preconditions) i .variable) (pair (action T a .preconditions) i .value))
 
   pub false-effect : (s a at i : ℕ) → s < stepsOf k 5 → a < itemsOf T 5 → at ≡ firstClause T k 5 s a → i < clausesOf T 5 a
-      → isFalse file k rows (at + i)
+      → isUnmet file k rows (at + i)
       ≡ (actsAt true file rows s a && not (pairAt file rows (suc s) (pair (action T a .effects) i)))
   unfolding pairAt stepsOf itemsOf firstClause stepClauses clausesOf problemOf
   false-effect s a at i hs ha e hi =
@@ -177,7 +177,7 @@ module _ (file : List ℕ) (rows : Rows) (k : ℕ) where
       ∙ ap₂ (λ a b. a && not b) (action-same true s a) (value-same false (suc s) (pair (action T a .effects) i .variable) (pair (action T a .effects) i .value))
 
   pub false-stay : (s x at v : ℕ) → s < stepsOf k 6 → x < itemsOf T 6 → at ≡ firstClause T k 6 s x → v < clausesOf T 6 x
-      → isFalse file k rows (at + v)
+      → isUnmet file k rows (at + v)
       ≡ (holdsAt true file rows (suc s) x v && (not (holdsAt false file rows s x v) && not (any (literalTrue (modelIn rows)) (supporters P s x v))))
   unfolding stepsOf itemsOf firstClause stepClauses clausesOf problemOf
   false-stay s x at v hs hx e hv =
@@ -194,7 +194,7 @@ module _ (file : List ℕ) (rows : Rows) (k : ℕ) where
   first-item s = omega (arith, ap (λ w. s * w) one-item)
 
   pub false-actions : (s at r a b : ℕ) → s < stepsOf k 7 → at ≡ firstClause T k 7 s 0 → PairAt (A T) r a b
-      → isFalse file k rows (at + r) ≡ (actsAt true file rows s a && actsAt true file rows s b)
+      → isUnmet file k rows (at + r) ≡ (actsAt true file rows s a && actsAt true file rows s b)
   unfolding stepsOf problemOf
   false-actions s at r a b hs e p =
       by-clause (at + r) _ (clause8 T k (at + r) s r a b hs p (omega (arith, first-item s)))

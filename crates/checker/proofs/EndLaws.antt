@@ -3,7 +3,7 @@
 use mathlib.Core.Path.{_≡_, refl, sym, ap, ap₂, _∙_}
 use mathlib.Core.Bool.{Bool, true, false, not, _&&_}
 use mathlib.Core.List.{List, [], _∷_, _++_}
-use Prim.Native.Nat.{ℕ, suc, _+_, _-_, _≤_, _<_}
+use Prim.Native.Nat.{ℕ, _+_, _-_, _≤_, _<_}
 use native.Mathlib.Omega.{arith}
 use borrow.Author.Tests.{le-leb, lt-leb, leb-true}
 use lib.Dec.{leb}
@@ -19,7 +19,7 @@ use Rattle.rules.specs.Output.{ending, modelRules, outcome}
 use Rattle.rules.specs.Readings.{scheduleOf}
 use Rattle.rules.specs.Calls.{problemOf, problemRules, problemVerdict, lentAfter, endVerdict, endEntries}
 use Rattle.rules.specs.declared.Refusal.{Refusal}
-use Rattle.rules.specs.declared.Refusal.the-variants.{Room, FalseClause, Unfinished, Unsatisfiable, Unknown}
+use Rattle.rules.specs.declared.Refusal.the-variants.{Room, UnmetClause, Unfinished, Unsatisfiable, Unknown}
 use Rattle.rules.specs.declared.Verdict.{Verdict}
 use Rattle.rules.specs.declared.Verdict.the-variants.{Accepted, Refused}
 use Rattle.rules.specs.declared.Phase.{Phase}
@@ -28,20 +28,20 @@ use Rattle.rules.proofs.Bools.{not-true, not-false, and-right}
 use Rattle.rules.proofs.Counting.{first-le, length-table}
 use Rattle.rules.proofs.Judging.{judge-refused, judge-passed, judge-append, judge-nil, judge-head, inTurn-left}
 use Rattle.rules.proofs.Loops.{judge-found, judge-none}
-use Rattle.checker.specs.Order.{isFalse}
+use Rattle.checker.specs.Order.{isUnmet}
 use Rattle.checker.specs.End.{lent, endWith}
 
 -- ---- 17
 
-module _ (file : List ℕ) (k : ℕ) (rows : Rows) (c n : ℕ) (g : c ≡ first (C (problemOf file k)) (isFalse file k rows)) (z : n ≡ C (problemOf file k)) where
-  pub clause-false : c < n → Refused (FalseClause c) ≡ judge (modelRules (problemOf file k) rows)
-  unfolding modelRules isFalse
-  clause-false b = sym (judge-found (C (problemOf file k)) _ FalseClause [] c (omega arith) g)
+module _ (file : List ℕ) (k : ℕ) (rows : Rows) (c n : ℕ) (g : c ≡ first (C (problemOf file k)) (isUnmet file k rows)) (z : n ≡ C (problemOf file k)) where
+  pub clause-unmet : c < n → Refused (UnmetClause c) ≡ judge (modelRules (problemOf file k) rows)
+  unfolding modelRules isUnmet
+  clause-unmet b = sym (judge-found (C (problemOf file k)) _ UnmetClause [] c (omega arith) g)
 
-  pub clauses-true : n ≤ c → Accepted ≡ judge (modelRules (problemOf file k) rows)
-  unfolding modelRules isFalse
-  clauses-true b =
-      sym (judge-none (C (problemOf file k)) _ FalseClause [] (omega (arith, g, first-le (C (problemOf file k)) (isFalse file k rows))) ∙ judge-nil)
+  pub clauses-met : n ≤ c → Accepted ≡ judge (modelRules (problemOf file k) rows)
+  unfolding modelRules isUnmet
+  clauses-met b =
+      sym (judge-none (C (problemOf file k)) _ UnmetClause [] (omega (arith, g, first-le (C (problemOf file k)) (isUnmet file k rows))) ∙ judge-nil)
 
 -- ---- 10
 

@@ -1,4 +1,4 @@
--- The search of one item, way by way: what its functions are asked, and that each answer is the lowest false clause up to the item's end.
+-- The search of one item, way by way: what its functions are asked, and that each answer is the lowest unmet clause up to the item's end.
 -- Assumes nothing.
 use mathlib.Core.Path.{_≡_, refl, sym, ap, ap₂, _∙_}
 use mathlib.Core.Logic.{⊎-elim}
@@ -27,7 +27,7 @@ use Rattle.task.specs.Index.{Indexed}
 use Rattle.task.specs.Numbers.{atAnyHorizon}
 use Rattle.rows.specs.Bits.{countsTrue, setFrom}
 use Rattle.rows.specs.Bound.{mostVariables}
-use Rattle.checker.specs.Order.{holdsAt, pairAt, actsAt, isFalse, stepsOf, itemsOf, clausesOf, Come, FirstPair, startValues, goalPairs, someValue, twoValues, preconditionsHold, effectsHold, twoActions}
+use Rattle.checker.specs.Order.{holdsAt, pairAt, actsAt, isUnmet, stepsOf, itemsOf, clausesOf, Come, FirstPair, startValues, goalPairs, someValue, twoValues, preconditionsHold, effectsHold, twoActions}
 use Rattle.checker.proofs.Widths.{steps-most, item-few}
 use Rattle.checker.proofs.Clauses.{false-start, false-goal, some-true, some-false, false-values, false-precondition, false-effect, false-actions}
 
@@ -55,7 +55,7 @@ module _ (file index : List ℕ) (rows : Rows) (k : ℕ) where
   T = taskOf file
 
   abbrev q : ℕ → Bool
-  q = isFalse file k rows
+  q = isUnmet file k rows
 
   -- ---- what is asked
 
@@ -285,7 +285,7 @@ module _ (file index : List ℕ) (rows : Rows) (k : ℕ) where
       unfolding clausesOf
       actions-lowest = chunk-lowest q at (c .reached .none) (pairsBelow (A T)) r (actions-is ∙ ap (λ m. first (pairsBelow m) (λ j. q (at + j))) g)
 
--- ---- a list of pairs: none of the first t is false
+-- ---- a list of pairs: none of the first t clauses is unmet
 
 module _ (q : ℕ → Bool) (at : ℕ) where
   pub pairs-yet : first at q ≡ at → first (at + 0) q ≡ at + 0
@@ -315,30 +315,30 @@ module _ (file index : List ℕ) (rows : Rows) (k s a at : ℕ) (c : Come file i
   unfolding clausesOf
   precondition-count = h ∙ ap (λ a. length (action (taskOf file) a .preconditions)) e
 
-  pub precondition-idle : not acting ≡ true → at + m ≡ first (at + count4) (isFalse file k rows)
+  pub precondition-idle : not acting ≡ true → at + m ≡ first (at + count4) (isUnmet file k rows)
   precondition-idle z =
       let idle : actsAt true file rows s a ≡ false = sym g ∙ not-true acting z in
       ap (λ m. at + m) precondition-count
-      ∙ chunk-true (isFalse file k rows) at (c .reached .none) count4 (λ j l.
+      ∙ chunk-true (isUnmet file k rows) at (c .reached .none) count4 (λ j l.
       false-precondition file rows k s a at j (c .step) (c .item) (c .reached .is) l
       ∙ ap (λ b. b && not (pairAt file rows s (pair (action (taskOf file) a .preconditions) j))) idle)
 
-  pub precondition-all : (t : ℕ) → first (at + t) (isFalse file k rows) ≡ at + t → t ≤ m → m ≤ t → at + m ≡ first (at + count4) (isFalse file k rows)
-  precondition-all t none l u = pairs-all (isFalse file k rows) at t none m count4 l u precondition-count
+  pub precondition-all : (t : ℕ) → first (at + t) (isUnmet file k rows) ≡ at + t → t ≤ m → m ≤ t → at + m ≡ first (at + count4) (isUnmet file k rows)
+  precondition-all t none l u = pairs-all (isUnmet file k rows) at t none m count4 l u precondition-count
 
-  module _ (z : not acting ≡ false) (t : ℕ) (none : first (at + t) (isFalse file k rows) ≡ at + t) (l : t < m) (b : Bool)
+  module _ (z : not acting ≡ false) (t : ℕ) (none : first (at + t) (isUnmet file k rows) ≡ at + t) (l : t < m) (b : Bool)
       (hb : b ≡ pairAt file rows s (pair (action (taskOf file) a .preconditions) t)) where
-    precondition-is : isFalse file k rows (at + t) ≡ not b
+    precondition-is : isUnmet file k rows (at + t) ≡ not b
     precondition-is =
         let there : t < count4 = omega (arith, precondition-count) in
         false-precondition file rows k s a at t (c .step) (c .item) (c .reached .is) there
         ∙ ap₂ (λ a b. a && not b) (sym g ∙ not-false acting z) (sym hb)
 
-    pub precondition-fails : not b ≡ true → at + t ≡ first (at + count4) (isFalse file k rows)
-    precondition-fails f = pairs-found (isFalse file k rows) at t none count4 (omega (arith, precondition-count)) (precondition-is ∙ f)
+    pub precondition-fails : not b ≡ true → at + t ≡ first (at + count4) (isUnmet file k rows)
+    precondition-fails f = pairs-found (isUnmet file k rows) at t none count4 (omega (arith, precondition-count)) (precondition-is ∙ f)
 
-    pub precondition-again : not b ≡ false → first (at + (t + 1)) (isFalse file k rows) ≡ at + (t + 1)
-    precondition-again f = pairs-more (isFalse file k rows) at t none (precondition-is ∙ f)
+    pub precondition-again : not b ≡ false → first (at + (t + 1)) (isUnmet file k rows) ≡ at + (t + 1)
+    precondition-again f = pairs-more (isUnmet file k rows) at t none (precondition-is ∙ f)
 
 module _ (file index : List ℕ) (rows : Rows) (k s a at : ℕ) (c : Come file index rows k effectsHold s a at) (p m : ℕ) (e : p ≡ a)
     (h : m ≡ length (action (taskOf file) p .effects)) (acting : Bool) (g : acting ≡ actsAt true file rows s a) where
@@ -349,30 +349,30 @@ module _ (file index : List ℕ) (rows : Rows) (k s a at : ℕ) (c : Come file i
   unfolding clausesOf
   effect-count = h ∙ ap (λ a. length (action (taskOf file) a .effects)) e
 
-  pub effect-idle : not acting ≡ true → at + m ≡ first (at + count5) (isFalse file k rows)
+  pub effect-idle : not acting ≡ true → at + m ≡ first (at + count5) (isUnmet file k rows)
   effect-idle z =
       let idle : actsAt true file rows s a ≡ false = sym g ∙ not-true acting z in
       ap (λ m. at + m) effect-count
-      ∙ chunk-true (isFalse file k rows) at (c .reached .none) count5 (λ j l.
+      ∙ chunk-true (isUnmet file k rows) at (c .reached .none) count5 (λ j l.
       false-effect file rows k s a at j (c .step) (c .item) (c .reached .is) l
       ∙ ap (λ b. b && not (pairAt file rows (suc s) (pair (action (taskOf file) a .effects) j))) idle)
 
-  pub effect-all : (t : ℕ) → first (at + t) (isFalse file k rows) ≡ at + t → t ≤ m → m ≤ t → at + m ≡ first (at + count5) (isFalse file k rows)
-  effect-all t none l u = pairs-all (isFalse file k rows) at t none m count5 l u effect-count
+  pub effect-all : (t : ℕ) → first (at + t) (isUnmet file k rows) ≡ at + t → t ≤ m → m ≤ t → at + m ≡ first (at + count5) (isUnmet file k rows)
+  effect-all t none l u = pairs-all (isUnmet file k rows) at t none m count5 l u effect-count
 
-  module _ (z : not acting ≡ false) (t : ℕ) (none : first (at + t) (isFalse file k rows) ≡ at + t) (l : t < m) (b : Bool)
+  module _ (z : not acting ≡ false) (t : ℕ) (none : first (at + t) (isUnmet file k rows) ≡ at + t) (l : t < m) (b : Bool)
       (hb : b ≡ pairAt file rows (s + 1) (pair (action (taskOf file) a .effects) t)) where
-    effect-is : isFalse file k rows (at + t) ≡ not b
+    effect-is : isUnmet file k rows (at + t) ≡ not b
     effect-is =
         let there : t < count5 = omega (arith, effect-count) in
         false-effect file rows k s a at t (c .step) (c .item) (c .reached .is) there
         ∙ ap₂ (λ a b. a && not b) (sym g ∙ not-false acting z) (ap (λ u. pairAt file rows u (pair (action (taskOf file) a .effects) t)) (sym (add-one s)) ∙ sym hb)
 
-    pub effect-fails : not b ≡ true → at + t ≡ first (at + count5) (isFalse file k rows)
-    effect-fails f = pairs-found (isFalse file k rows) at t none count5 (omega (arith, effect-count)) (effect-is ∙ f)
+    pub effect-fails : not b ≡ true → at + t ≡ first (at + count5) (isUnmet file k rows)
+    effect-fails f = pairs-found (isUnmet file k rows) at t none count5 (omega (arith, effect-count)) (effect-is ∙ f)
 
-    pub effect-again : not b ≡ false → first (at + (t + 1)) (isFalse file k rows) ≡ at + (t + 1)
-    effect-again f = pairs-more (isFalse file k rows) at t none (effect-is ∙ f)
+    pub effect-again : not b ≡ false → first (at + (t + 1)) (isUnmet file k rows) ≡ at + (t + 1)
+    effect-again f = pairs-more (isUnmet file k rows) at t none (effect-is ∙ f)
 
 -- ---- one pair of an action
 

@@ -1,4 +1,4 @@
--- The search through all clauses, way by way: an item, a step and a family are passed or hold the lowest false clause of all.
+-- The search through all clauses, way by way: an item, a step and a family are passed or hold the lowest unmet clause of all.
 -- Assumes nothing.
 use mathlib.Core.Path.{_≡_, refl, sym, ap, _∙_}
 use mathlib.Core.Bool.{Bool}
@@ -19,7 +19,7 @@ use Rattle.rules.proofs.Counting.{first-le, first-before, first-at, first-is}
 use Rattle.rules.proofs.Files.{accepted-well-formed}
 use Rattle.rules.proofs.ByNumber.{clausesBefore}
 use Rattle.task.specs.Index.{Indexed}
-use Rattle.checker.specs.Order.{isFalse, stepsOf, itemsOf, clausesOf, stepClauses, firstClause, Reached, Come, familyCount}
+use Rattle.checker.specs.Order.{isUnmet, stepsOf, itemsOf, clausesOf, stepClauses, firstClause, Reached, Come, familyCount}
 use Rattle.checker.proofs.Widths.{next-family, all-families, family-end, step-few, item-few, family-few, step-within, item-within}
 
 beyond : (f m : ℕ) → m ≤ f → (f ≡ m → ⊥) → suc m ≤ f
@@ -44,7 +44,7 @@ module _ (file index : List ℕ) (rows : Rows) (k : ℕ) where
   T = taskOf file
 
   abbrev q : ℕ → Bool
-  q = isFalse file k rows
+  q = isUnmet file k rows
 
   -- ---- one item, by the family's number
 

@@ -28,7 +28,7 @@ use Rattle.task.specs.Index.{Indexed}
 use Rattle.task.specs.Numbers.{atAnyHorizon}
 use Rattle.rows.specs.Bits.{countsTrue, setFrom}
 use Rattle.rows.specs.Bound.{mostVariables}
-use Rattle.checker.specs.Order.{holdsAt, actsAt, isFalse, stepsOf, itemsOf, clausesOf, Come, valuesStay}
+use Rattle.checker.specs.Order.{holdsAt, actsAt, isUnmet, stepsOf, itemsOf, clausesOf, Come, valuesStay}
 use Rattle.checker.specs.Staying.{effectIs, givesAt, supportsAt, supportedAt, changesAlone}
 use Rattle.checker.proofs.Clauses.{literal-plus, false-stay}
 use Rattle.checker.proofs.ItemLaws.{item-bound, pairs-more, pairs-found, pairs-all, actions-room}
@@ -240,20 +240,20 @@ module _ (file index : List ℕ) (rows : Rows) (k s x at : ℕ) (c : Come file i
     pub stay-there : (v : ℕ) → v < m → v < d (taskOf file) x
     stay-there v l = omega arith
 
-    pub stay-all : (v : ℕ) → first (at + v) (isFalse file k rows) ≡ at + v → v ≤ m → m ≤ v
-        → at + m ≡ first (at + clausesOf (taskOf file) valuesStay x) (isFalse file k rows)
-    stay-all v none l u = pairs-all (isFalse file k rows) at v none m (clausesOf (taskOf file) valuesStay x) l u stay-count
+    pub stay-all : (v : ℕ) → first (at + v) (isUnmet file k rows) ≡ at + v → v ≤ m → m ≤ v
+        → at + m ≡ first (at + clausesOf (taskOf file) valuesStay x) (isUnmet file k rows)
+    stay-all v none l u = pairs-all (isUnmet file k rows) at v none m (clausesOf (taskOf file) valuesStay x) l u stay-count
 
-    module _ (v : ℕ) (none : first (at + v) (isFalse file k rows) ≡ at + v) (l : v < m) (b : Bool) (e : b ≡ changesAlone file rows s x v) where
-      stay-is : isFalse file k rows (at + v) ≡ b
+    module _ (v : ℕ) (none : first (at + v) (isUnmet file k rows) ≡ at + v) (l : v < m) (b : Bool) (e : b ≡ changesAlone file rows s x v) where
+      stay-is : isUnmet file k rows (at + v) ≡ b
       unfolding changesAlone
       stay-is =
           false-stay file rows k s x at v (c .step) (c .item) (c .reached .is) (omega (arith, stay-count))
           ∙ ap (λ g. holdsAt true file rows (suc s) x v && (not (holdsAt false file rows s x v) && not g)) (supporters-are file rows s x v k)
           ∙ sym e
 
-      pub stay-fails : b ≡ true → at + v ≡ first (at + clausesOf (taskOf file) valuesStay x) (isFalse file k rows)
-      stay-fails t = pairs-found (isFalse file k rows) at v none (clausesOf (taskOf file) valuesStay x) (omega (arith, stay-count)) (stay-is ∙ t)
+      pub stay-fails : b ≡ true → at + v ≡ first (at + clausesOf (taskOf file) valuesStay x) (isUnmet file k rows)
+      stay-fails t = pairs-found (isUnmet file k rows) at v none (clausesOf (taskOf file) valuesStay x) (omega (arith, stay-count)) (stay-is ∙ t)
 
-      pub stay-again : b ≡ false → first (at + (v + 1)) (isFalse file k rows) ≡ at + (v + 1)
-      stay-again t = pairs-more (isFalse file k rows) at v none (stay-is ∙ t)
+      pub stay-again : b ≡ false → first (at + (v + 1)) (isUnmet file k rows) ≡ at + (v + 1)
+      stay-again t = pairs-more (isUnmet file k rows) at v none (stay-is ∙ t)

@@ -37,9 +37,9 @@ pairAt file rows s p = holdsAt false file rows s (p .variable) (p .value)
 unfoldable pub actsAt : (unnamed : Bool) (file : List ℕ) → Rows → ℕ → ℕ → Bool
 actsAt unnamed file rows s a = countsTrue unnamed rows (actionNumber (atAnyHorizon file) s a)
 
--- clause c has no true literal among those named
-unfoldable pub isFalse : (file : List ℕ) (k : ℕ) → Rows → ℕ → Bool
-isFalse file k rows c = not (clauseTrue (modelIn rows) (clause (problemOf file k) c))
+-- clause c is unmet: it has no true literal among those named
+unfoldable pub isUnmet : (file : List ℕ) (k : ℕ) → Rows → ℕ → Bool
+isUnmet file k rows c = not (clauseTrue (modelIn rows) (clause (problemOf file k) c))
 
 -- ---- the families, from 0
 
@@ -102,12 +102,12 @@ stepClauses T f = sumTo (itemsOf T f) (clausesOf T f)
 unfoldable pub firstClause : Task → (k f s i : ℕ) → ℕ
 firstClause T k f s i = clausesBefore T k f + (s * stepClauses T f + sumTo i (clausesOf T f))
 
--- the search has come to item i of step s of family f, and found nothing false before it
+-- the search has come to item i of step s of family f, and found nothing unmet before it
 pub record Reached (file index : List ℕ) (rows : Rows) (k f s i at : ℕ) : Type 0 where
   pub indexed : Indexed file index
   pub low : k ≤ maxHorizon
   pub is : at ≡ firstClause (taskOf file) k f s i
-  pub none : first at (isFalse file k rows) ≡ at
+  pub none : first at (isUnmet file k rows) ≡ at
 
 -- and the step and the item are there
 pub record Come (file index : List ℕ) (rows : Rows) (k f s i at : ℕ) : Type 0 where

@@ -1,7 +1,7 @@
 // The end of a reading: refusals 1 to 8 and 10, then 15, 18, 19 and 15 by the status, and 17; an accepted model becomes its schedule.
 use crate::schedule::write_schedule;
 use crate::search::all_clauses;
-use crate::search::lowest_false;
+use crate::search::lowest_unmet;
 use rows::words_for;
 use rules::Phase;
 use rules::Reading;
@@ -48,9 +48,9 @@ fn model_verdict(
     requires { ⌜ Indexed (now file) (now index) × (horizon ≤ maxHorizon) ⌝ }
     ensures { λ r. ⌜ r ≡ judge (modelRules (problemOf (now (file .entry)) horizon) (lent (now (given .entry)) (now (truth .entry)))) ⌝ }
 {
-    let lowest = lowest_false(file, index, horizon, given, truth);
+    let lowest = lowest_unmet(file, index, horizon, given, truth);
     if lowest < all_clauses(file, index, horizon) {
-        return Verdict::Refused(Refusal::FalseClause(lowest));
+        return Verdict::Refused(Refusal::UnmetClause(lowest));
     }
     Verdict::Accepted
 }

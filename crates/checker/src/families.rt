@@ -1,5 +1,4 @@
-// The lowest clause of one item without a true literal among those named, family by family: where each has one, the number of the clause behind the
-// item's last.
+// The lowest unmet clause of one item, family by family: where none is unmet, the number of the clause behind the item's last.
 use crate::bits::UNNAMED_IN_NEGATIVE;
 use crate::bits::UNNAMED_IN_POSITIVE;
 use crate::bits::acts;
@@ -27,9 +26,9 @@ ghost use Rattle.task.specs.Index.{Indexed};
 ghost use Rattle.rules.specs.Counting.{first};
 ghost use Rattle.rules.specs.File.{taskOf};
 ghost use Rattle.rows.specs.Lent.{lent};
-ghost use Rattle.checker.specs.Order.{pairAt, isFalse, clausesOf, Come, startValues, goalPairs, someValue, twoValues, preconditionsHold, effectsHold, twoActions};
+ghost use Rattle.checker.specs.Order.{pairAt, isUnmet, clausesOf, Come, startValues, goalPairs, someValue, twoValues, preconditionsHold, effectsHold, twoActions};
 
-// A variable has its start value at the first step.
+// A variable is named to have its start value at the first step.
 pub fn start_clause(
     file: &[u8],
     index: &[usize],
@@ -40,7 +39,7 @@ pub fn start_clause(
     at: usize,
 ) -> usize
     requires { ⌜ Come (now file) (now index) (lent (now given) (now truth)) horizon startValues 0 x at ⌝ }
-    ensures { λ r. ⌜ r ≡ first (at + clausesOf (taskOf (now (file .entry))) startValues x) (isFalse (now (file .entry)) horizon (lent (now (given .entry)) (now (truth .entry)))) ⌝ }
+    ensures { λ r. ⌜ r ≡ first (at + clausesOf (taskOf (now (file .entry))) startValues x) (isUnmet (now (file .entry)) horizon (lent (now (given .entry)) (now (truth .entry)))) ⌝ }
 {
     let value = start_value(file, x);
     if value_holds(file, index, given, truth, UNNAMED_IN_POSITIVE, 0, x, value) {
@@ -49,7 +48,7 @@ pub fn start_clause(
     at
 }
 
-// A goal pair holds at the last step.
+// A goal pair is named to hold at the last step.
 pub fn goal_clause(
     file: &[u8],
     index: &[usize],
@@ -60,7 +59,7 @@ pub fn goal_clause(
     at: usize,
 ) -> usize
     requires { ⌜ Come (now file) (now index) (lent (now given) (now truth)) horizon goalPairs 0 i at ⌝ }
-    ensures { λ r. ⌜ r ≡ first (at + clausesOf (taskOf (now (file .entry))) goalPairs i) (isFalse (now (file .entry)) horizon (lent (now (given .entry)) (now (truth .entry)))) ⌝ }
+    ensures { λ r. ⌜ r ≡ first (at + clausesOf (taskOf (now (file .entry))) goalPairs i) (isUnmet (now (file .entry)) horizon (lent (now (given .entry)) (now (truth .entry)))) ⌝ }
 {
     let pair = goal_pair(file, i);
     if pair_holds(
@@ -77,7 +76,7 @@ pub fn goal_clause(
     at
 }
 
-// A variable has some value at a step.
+// A variable is named to have some value at a step.
 pub fn some_value_clause(
     file: &[u8],
     index: &[usize],
@@ -89,7 +88,7 @@ pub fn some_value_clause(
     at: usize,
 ) -> usize
     requires { ⌜ Come (now file) (now index) (lent (now given) (now truth)) horizon someValue step x at ⌝ }
-    ensures { λ r. ⌜ r ≡ first (at + clausesOf (taskOf (now (file .entry))) someValue x) (isFalse (now (file .entry)) horizon (lent (now (given .entry)) (now (truth .entry)))) ⌝ }
+    ensures { λ r. ⌜ r ≡ first (at + clausesOf (taskOf (now (file .entry))) someValue x) (isUnmet (now (file .entry)) horizon (lent (now (given .entry)) (now (truth .entry)))) ⌝ }
 {
     let values = size(file, x);
     let from = first_value(file, index, step, x);
@@ -99,7 +98,7 @@ pub fn some_value_clause(
     at
 }
 
-// It has no two values there.
+// Of every two values one is named false there.
 pub fn two_values_clauses(
     file: &[u8],
     index: &[usize],
@@ -111,13 +110,13 @@ pub fn two_values_clauses(
     at: usize,
 ) -> usize
     requires { ⌜ Come (now file) (now index) (lent (now given) (now truth)) horizon twoValues step x at ⌝ }
-    ensures { λ r. ⌜ r ≡ first (at + clausesOf (taskOf (now (file .entry))) twoValues x) (isFalse (now (file .entry)) horizon (lent (now (given .entry)) (now (truth .entry)))) ⌝ }
+    ensures { λ r. ⌜ r ≡ first (at + clausesOf (taskOf (now (file .entry))) twoValues x) (isUnmet (now (file .entry)) horizon (lent (now (given .entry)) (now (truth .entry)))) ⌝ }
 {
     let from = first_value(file, index, step, x);
     at + first_pair(given, truth, from, size(file, x))
 }
 
-// Pair i of an action's preconditions holds at a step.
+// Pair i of an action's preconditions is named to hold at a step.
 fn precondition_holds(
     file: &[u8],
     index: &[usize],
@@ -141,7 +140,7 @@ fn precondition_holds(
     )
 }
 
-// The preconditions of an action that is true at a step hold there.
+// The preconditions of an action that is not named false at a step are named to hold there.
 pub fn precondition_clauses(
     file: &[u8],
     index: &[usize],
@@ -153,7 +152,7 @@ pub fn precondition_clauses(
     at: usize,
 ) -> usize
     requires { ⌜ Come (now file) (now index) (lent (now given) (now truth)) horizon preconditionsHold step a at ⌝ }
-    ensures { λ r. ⌜ r ≡ first (at + clausesOf (taskOf (now (file .entry))) preconditionsHold a) (isFalse (now (file .entry)) horizon (lent (now (given .entry)) (now (truth .entry)))) ⌝ }
+    ensures { λ r. ⌜ r ≡ first (at + clausesOf (taskOf (now (file .entry))) preconditionsHold a) (isUnmet (now (file .entry)) horizon (lent (now (given .entry)) (now (truth .entry)))) ⌝ }
 {
     let count = precondition_count(file, index, nth_action(a));
     if !acts(file, index, given, truth, UNNAMED_IN_NEGATIVE, step, a) {
@@ -169,7 +168,7 @@ pub fn precondition_clauses(
     at + count
 }
 
-// Pair i of an action's effects holds at a step.
+// Pair i of an action's effects is named to hold at a step.
 fn effect_holds(
     file: &[u8],
     index: &[usize],
@@ -193,7 +192,7 @@ fn effect_holds(
     )
 }
 
-// Its effects hold at the next.
+// Its effects are named to hold at the next.
 pub fn effect_clauses(
     file: &[u8],
     index: &[usize],
@@ -205,7 +204,7 @@ pub fn effect_clauses(
     at: usize,
 ) -> usize
     requires { ⌜ Come (now file) (now index) (lent (now given) (now truth)) horizon effectsHold step a at ⌝ }
-    ensures { λ r. ⌜ r ≡ first (at + clausesOf (taskOf (now (file .entry))) effectsHold a) (isFalse (now (file .entry)) horizon (lent (now (given .entry)) (now (truth .entry)))) ⌝ }
+    ensures { λ r. ⌜ r ≡ first (at + clausesOf (taskOf (now (file .entry))) effectsHold a) (isUnmet (now (file .entry)) horizon (lent (now (given .entry)) (now (truth .entry)))) ⌝ }
 {
     let count = effect_count(file, index, nth_action(a));
     if !acts(file, index, given, truth, UNNAMED_IN_NEGATIVE, step, a) {
@@ -221,7 +220,7 @@ pub fn effect_clauses(
     at + count
 }
 
-// No two actions are true at a step.
+// Of every two actions at a step one is named false.
 pub fn two_actions_clauses(
     file: &[u8],
     index: &[usize],
@@ -232,7 +231,7 @@ pub fn two_actions_clauses(
     at: usize,
 ) -> usize
     requires { ⌜ Come (now file) (now index) (lent (now given) (now truth)) horizon twoActions step 0 at ⌝ }
-    ensures { λ r. ⌜ r ≡ first (at + clausesOf (taskOf (now (file .entry))) twoActions 0) (isFalse (now (file .entry)) horizon (lent (now (given .entry)) (now (truth .entry)))) ⌝ }
+    ensures { λ r. ⌜ r ≡ first (at + clausesOf (taskOf (now (file .entry))) twoActions 0) (isUnmet (now (file .entry)) horizon (lent (now (given .entry)) (now (truth .entry)))) ⌝ }
 {
     let count = actions(file, index);
     if count == 0 {

@@ -1,4 +1,5 @@
-// The search through all clauses: family by family, in each step by step, in each item by item.
+// The search through all clauses for one that is unmet, without a true literal among those named: family by family, in each step by step, in each item by
+// item.
 use crate::families::effect_clauses;
 use crate::families::goal_clause;
 use crate::families::precondition_clauses;
@@ -28,9 +29,9 @@ ghost use Rattle.rules.specs.Families.{C};
 ghost use Rattle.rules.specs.Calls.{problemOf};
 ghost use Rattle.task.specs.Index.{Indexed};
 ghost use Rattle.rows.specs.Lent.{lent};
-ghost use Rattle.checker.specs.Order.{isFalse, stepsOf, clausesOf, stepClauses, Reached, Come, familyCount};
+ghost use Rattle.checker.specs.Order.{isUnmet, stepsOf, clausesOf, stepClauses, Reached, Come, familyCount};
 
-// The lowest false clause up to the end of an item.
+// The lowest unmet clause up to the end of an item.
 fn in_item(
     file: &[u8],
     index: &[usize],
@@ -43,7 +44,7 @@ fn in_item(
     at: usize,
 ) -> usize
     requires { ⌜ Come (now file) (now index) (lent (now given) (now truth)) horizon family step i at ⌝ }
-    ensures { λ r. ⌜ r ≡ first (at + clausesOf (taskOf (now (file .entry))) family i) (isFalse (now (file .entry)) horizon (lent (now (given .entry)) (now (truth .entry)))) ⌝ }
+    ensures { λ r. ⌜ r ≡ first (at + clausesOf (taskOf (now (file .entry))) family i) (isUnmet (now (file .entry)) horizon (lent (now (given .entry)) (now (truth .entry)))) ⌝ }
 {
     if family == START_VALUES {
         return start_clause(file, index, horizon, given, truth, i, at);
@@ -81,7 +82,7 @@ fn in_step(
     start: usize,
 ) -> usize
     requires { ⌜ Reached (now file) (now index) (lent (now given) (now truth)) horizon family step 0 start × (family < familyCount) × (step < stepsOf horizon family) ⌝ }
-    ensures { λ r. ⌜ r ≡ first (start + stepClauses (taskOf (now (file .entry))) family) (isFalse (now (file .entry)) horizon (lent (now (given .entry)) (now (truth .entry)))) ⌝ }
+    ensures { λ r. ⌜ r ≡ first (start + stepClauses (taskOf (now (file .entry))) family) (isUnmet (now (file .entry)) horizon (lent (now (given .entry)) (now (truth .entry)))) ⌝ }
 {
     let items = items_of(file, index, family);
     let mut i = 0;
@@ -109,7 +110,7 @@ fn in_family(
     start: usize,
 ) -> usize
     requires { ⌜ Reached (now file) (now index) (lent (now given) (now truth)) horizon family 0 0 start × (family < familyCount) ⌝ }
-    ensures { λ r. ⌜ r ≡ first (start + stepsOf horizon family * stepClauses (taskOf (now (file .entry))) family) (isFalse (now (file .entry)) horizon (lent (now (given .entry)) (now (truth .entry)))) ⌝ }
+    ensures { λ r. ⌜ r ≡ first (start + stepsOf horizon family * stepClauses (taskOf (now (file .entry))) family) (isUnmet (now (file .entry)) horizon (lent (now (given .entry)) (now (truth .entry)))) ⌝ }
 {
     let steps = steps_of(horizon, family);
     let width = step_clauses(file, index, family);
@@ -135,8 +136,8 @@ fn family_clauses(file: &[u8], index: &[usize], horizon: usize, family: usize) -
     steps_of(horizon, family) * step_clauses(file, index, family)
 }
 
-// The lowest clause without a true literal among those named; C where each has one.
-pub fn lowest_false(
+// The lowest unmet clause; C where none is.
+pub fn lowest_unmet(
     file: &[u8],
     index: &[usize],
     horizon: usize,
@@ -144,7 +145,7 @@ pub fn lowest_false(
     truth: &[u64],
 ) -> usize
     requires { ⌜ Indexed (now file) (now index) × (horizon ≤ maxHorizon) ⌝ }
-    ensures { λ r. ⌜ r ≡ first (C (problemOf (now (file .entry)) horizon)) (isFalse (now (file .entry)) horizon (lent (now (given .entry)) (now (truth .entry)))) ⌝ }
+    ensures { λ r. ⌜ r ≡ first (C (problemOf (now (file .entry)) horizon)) (isUnmet (now (file .entry)) horizon (lent (now (given .entry)) (now (truth .entry)))) ⌝ }
 {
     let mut family = 0;
     let mut at = 0;

@@ -20,7 +20,7 @@ ghost use Rattle.rules.specs.Task.{n, d, A as actionCount, action};
 ghost use Rattle.rules.specs.File.{taskOf};
 ghost use Rattle.task.specs.Index.{Indexed};
 ghost use Rattle.rows.specs.Lent.{lent};
-ghost use Rattle.checker.specs.Order.{isFalse, clausesOf, Come, valuesStay};
+ghost use Rattle.checker.specs.Order.{isUnmet, clausesOf, Come, valuesStay};
 ghost use Rattle.checker.specs.Staying.{effectIs, givesAt, supportedAt, changesAlone};
 
 // Effect i of an action is x = v.
@@ -122,7 +122,7 @@ pub fn stay_clauses(
     at: usize,
 ) -> usize
     requires { ⌜ Come (now file) (now index) (lent (now given) (now truth)) horizon valuesStay step x at ⌝ }
-    ensures { λ r. ⌜ r ≡ first (at + clausesOf (taskOf (now (file .entry))) valuesStay x) (isFalse (now (file .entry)) horizon (lent (now (given .entry)) (now (truth .entry)))) ⌝ }
+    ensures { λ r. ⌜ r ≡ first (at + clausesOf (taskOf (now (file .entry))) valuesStay x) (isUnmet (now (file .entry)) horizon (lent (now (given .entry)) (now (truth .entry)))) ⌝ }
 {
     let values = size(file, x);
     let mut v = 0;

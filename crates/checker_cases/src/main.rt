@@ -1,4 +1,4 @@
-// The end of a reading on models of the folder example and of one other task. A line shows the refusal's number and detail, or 0 0, and
+// The end of a reading on models of the folder example and of two other tasks. A line shows the refusal's number and detail, or 0 0, and
 // then the four entries that were lent: all 9 before the call. Four lines show how many models of all at a horizon are accepted, at two of them with all
 // that can be left out.
 use rules::Phase;
@@ -90,7 +90,7 @@ fn model(file: &[u8], horizon: usize, truth: u64) {
     finish(file, horizon, Phase::ModelClosed, ALL, truth);
 }
 
-// The model of P7 with each of its variables left out in turn: every one is the only named literal of some clause.
+// The model of P7 with each of its variables left out in turn: every one is the only true literal of some clause.
 fn leave_out_each(file: &[u8]) {
     let mut place = 0;
     while place < VARIABLES {

@@ -3,7 +3,7 @@
 use mathlib.Core.Path.{_≡_, refl, sym, ap, _∙_}
 use mathlib.Core.Bool.{true}
 use mathlib.Core.List.{List, [], _∷_, _++_, map}
-use Prim.Native.Nat.{ℕ, suc, _+_, _-_, _*_, _≤_, _<_}
+use Prim.Native.Nat.{ℕ, _+_, _-_, _*_, _≤_}
 use native.Mathlib.Omega.{arith}
 use borrow.Author.Tests.{le-leb}
 use lib.IntN.{ℤ}
@@ -18,7 +18,7 @@ use Rattle.rules.specs.Numbering.{N}
 use Rattle.rules.specs.Families.{signed, family1, family2, family3, family4, family5, family6, family7, family8, formula, C}
 use Rattle.rules.specs.Counts.{sum, countTable}
 use Rattle.rules.specs.Rows.{Rows, wordsFor}
-use Rattle.rules.specs.Truth.{modelIn, assigned, completion}
+use Rattle.rules.specs.Truth.{modelIn, completion}
 use Rattle.rules.specs.Walk.{CarriedOut}
 use Rattle.rules.specs.Readings.{scheduleOf, assignmentOf, rowsOf}
 use Rattle.rules.specs.Answers.{judge}

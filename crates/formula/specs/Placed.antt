@@ -1,7 +1,7 @@
 -- The clause at a place: what each family says of a step and of what it counts.
 -- Assumes nothing.
 use mathlib.Core.List.{[], _∷_}
-use Prim.Native.Nat.{ℕ, suc}
+use Prim.Native.Nat.{suc}
 use Rattle.rules.specs.Counting.{table}
 use Rattle.rules.specs.Task.{d, startValue, pair, action}
 use Rattle.rules.specs.Problem.{Problem}

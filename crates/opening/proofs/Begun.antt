@@ -2,14 +2,12 @@
 -- Assumes nothing.
 use mathlib.Core.Path.{_≡_, refl, sym, ap, _∙_}
 use mathlib.Core.Logic.{⊎-elim}
-use mathlib.Core.Bool.{Bool, true, false}
+use mathlib.Core.Bool.{false}
 use mathlib.Core.List.{List, [], _∷_}
 use Prim.Native.Nat.{ℕ}
 use native.Mathlib.Omega.{arith}
 use Rattle.rules.specs.Answers.{demand, judge, inTurn}
-use Rattle.rules.specs.Problem.{Problem}
 use Rattle.rules.specs.Numbering.{N}
-use Rattle.rules.specs.Families.{C}
 use Rattle.rules.specs.Rows.{Rows}
 use Rattle.rules.specs.Lines.{rowsFit, Progress}
 use Rattle.rules.specs.Calls.{problemOf, problemRules, problemVerdict, startVerdict, startedBy, startReading}

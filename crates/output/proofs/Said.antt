@@ -1,24 +1,24 @@
 -- A whole model said by a solver, a literal a line: the reading ends closed, with rows that hold just what was said.
 -- Assumes nothing.
 use mathlib.Core.Path.{_≡_, refl, sym, ap, _∙_}
-use mathlib.Core.Logic.{_⊎_, inl, inr, ⊎-elim}
-use mathlib.Core.Bool.{Bool, true, false, cond, _&&_}
+use mathlib.Core.Logic.{_⊎_, ⊎-elim}
+use mathlib.Core.Bool.{Bool, true, false, cond}
 use mathlib.Core.List.{List, [], _∷_, _++_, foldl, foldl-append}
 use Prim.Native.Nat.{ℕ, zero, suc, _+_, _-_, _/_, _^_, _≤_, _<_}
 use native.Mathlib.Omega.{arith}
-use borrow.Author.Tests.{ltb-true, lt-ltb, le-ltb, le-leb, leb-true, eqb-true, eqb-false}
+use borrow.Author.Tests.{lt-ltb, le-ltb, leb-true, eqb-true, eqb-false}
 use lib.Dec.{leb, ltb, eqb}
 use lib.ListN.{length, getD}
 use Rattle.rules.specs.Counting.{forEach, table}
 use Rattle.rules.specs.Families.{Literal, plus, minus}
 use Rattle.rules.specs.Rows.{Rows, wordBits, wordsFor, bitOfVariable, withVariable, store}
-use Rattle.rules.specs.Lines.{rowsFit, saysSatisfiable, readLine, Progress}
+use Rattle.rules.specs.Lines.{rowsFit, saysSatisfiable, Progress}
 use Rattle.rules.specs.Output.{readOn, readLines}
 use Rattle.rules.specs.declared.LineAnswer.{LineAnswer}
 use Rattle.rules.specs.declared.Phase.{Phase}
 use Rattle.rules.specs.declared.Phase.the-variants.{NoStatus, ModelOpen, ModelClosed}
 use Rattle.rules.specs.declared.Reading.{Reading}
-use Rattle.rules.proofs.Bools.{either, and-left, and-right, and-both, below-or, below-suc}
+use Rattle.rules.proofs.Bools.{either, and-left, and-right, below-or, below-suc}
 use Rattle.rules.proofs.Bits.{word-there}
 use Rattle.rules.proofs.Spoken.{literalLine, closingLine, variableIn, read-literal, read-status, read-closing}
 use Rattle.rows.proofs.Bits.{length-with, bit-written, bit-kept}

@@ -2,15 +2,14 @@
 -- program prints these entries when a solver says the schedule's assignment, a literal a line.
 -- Assumes nothing.
 use mathlib.Core.Path.{_≡_, refl, sym, ap, _∙_}
-use mathlib.Core.Bool.{Bool, true, false, not, _&&_}
+use mathlib.Core.Bool.{Bool, true, false}
 use mathlib.Core.List.{List, [], _∷_, _++_, map, append-assoc}
 use Prim.Native.Nat.{ℕ, zero, suc, _+_, _-_, _*_, _/_, _%_, _^_, _≤_, _<_}
-use Prim.Native.Char.{code}
 use native.Mathlib.Nat.{zero-div}
 use native.Mathlib.Omega.{arith}
 use borrow.Author.Tests.{le-leb}
-use lib.Dec.{eqb, lit<}
-use lib.ListN.{length, getD, take, drop, replicate, length-replicate}
+use lib.Dec.{lit<}
+use lib.ListN.{length, getD, take, replicate, length-replicate}
 use lib.Seq.{take-at, drop-at}
 use Rattle.rules.specs.Counting.{every, joined, table}
 use Rattle.rules.specs.Limits.{maxHorizon, byteValues}
@@ -19,24 +18,24 @@ use Rattle.rules.specs.Problem.{Problem}
 use Rattle.rules.specs.Numbering.{N}
 use Rattle.rules.specs.Families.{Literal, plus, minus}
 use Rattle.rules.specs.Text.{lf, ascii, literalText}
-use Rattle.rules.specs.Rows.{Rows, wordsFor, bitOf, bitOfVariable}
+use Rattle.rules.specs.Rows.{Rows, wordsFor, bitOfVariable}
 use Rattle.rules.specs.Truth.{modelIn, assigned}
 use Rattle.rules.specs.Walk.{CarriedOut}
 use Rattle.rules.specs.Readings.{scheduleOf, assignmentOf}
 use Rattle.rules.specs.Lines.{pieces, rowsFit, saysSatisfiable}
 use Rattle.rules.specs.Output.{withoutEmptyLast, linesOf, readLines, readOutput, outcome, firstReading}
 use Rattle.rules.specs.Calls.{problemOf, problemVerdict}
-use Rattle.rules.specs.Programs.{printed, scheduleText, freshRows, modelText, afterLines, modelOutput}
+use Rattle.rules.specs.Programs.{printed, scheduleText, freshRows, afterLines, modelOutput}
 use Rattle.rules.specs.declared.Verdict.the-variants.{Accepted}
 use Rattle.rules.specs.declared.LineAnswer.{LineAnswer}
 use Rattle.rules.specs.declared.Phase.the-variants.{NoStatus, ModelClosed}
 use Rattle.rules.proofs.Bools.{and-left, and-right, and-both}
-use Rattle.rules.proofs.Counting.{every-append, every-one, every-table}
+use Rattle.rules.proofs.Counting.{every-append, every-table}
 use Rattle.rules.proofs.Valid.{WellFormed}
-use Rattle.rules.proofs.Files.{accepted-well-formed, accepted-file}
+use Rattle.rules.proofs.Files.{accepted-well-formed}
 use Rattle.rules.proofs.Bounds.{N-bound}
 use Rattle.rules.proofs.Within.{Agree, satisfied-alike, schedule-alike}
-use Rattle.rules.proofs.Endings.{ModelHolds, holds-accepted}
+use Rattle.rules.proofs.Endings.{holds-accepted}
 use Rattle.rules.proofs.Schedules.{length-assignment, assignment-good, schedule-back}
 use Rattle.rules.proofs.AtCalls.{within}
 use Rattle.rules.proofs.Spoken.{free, pieces-more, decimal-free, literalLine, closingLine}

@@ -1,38 +1,35 @@
 -- Demands 2 and 3 over the calls, for an accepted file and a horizon from 0 to 64 with room enough lent: what each call accepts, what it writes, and
 -- that the end of a reading and the way back lead from a model to its completion and from a schedule to itself.
 -- Assumes nothing.
-use mathlib.Core.Path.{_≡_, refl, sym, ap, _∙_}
+use mathlib.Core.Path.{_≡_, sym, ap, _∙_}
 use mathlib.Core.Logic.{_↔_}
-use mathlib.Core.Bool.{Bool, true, false, _&&_}
+use mathlib.Core.Bool.{Bool, true}
 use mathlib.Core.List.{List, [], _∷_, _++_}
-use Prim.Native.Nat.{ℕ, suc, _+_, _≤_, _<_}
+use Prim.Native.Nat.{ℕ, _+_, _≤_, _<_}
 use native.Mathlib.Omega.{arith}
 use borrow.Author.Tests.{le-leb, lt-ltb}
-use lib.Dec.{leb, ltb}
-use lib.ListN.{length, getD, take, drop, replicate, length-append, length-replicate, List·getD-append}
+use lib.ListN.{length, take, drop, replicate, length-append, length-replicate, List·getD-append}
 use lib.Seq.{take-at}
 use Rattle.rules.specs.Limits.{maxHorizon}
-use Rattle.rules.specs.Answers.{Rule, demand, judge, inTurn}
+use Rattle.rules.specs.Answers.{Rule, judge}
 use Rattle.rules.specs.Task.{Task}
 use Rattle.rules.specs.File.{fileRules, fileVerdict, taskOf}
 use Rattle.rules.specs.Problem.{Problem}
 use Rattle.rules.specs.Numbering.{N}
 use Rattle.rules.specs.Families.{C, clause}
 use Rattle.rules.specs.Text.{clauseLine, headerLine}
-use Rattle.rules.specs.Rows.{Rows, wordBits, wordsFor, packed, overRow}
+use Rattle.rules.specs.Rows.{Rows, wordsFor, packed, overRow}
 use Rattle.rules.specs.Truth.{modelIn, completion}
 use Rattle.rules.specs.Walk.{CarriedOut, entry, scheduleRules}
 use Rattle.rules.specs.Readings.{scheduleOf, assignmentOf, rowsHolding, rowsOf}
 use Rattle.rules.specs.Lines.{rowsFit}
 use Rattle.rules.specs.Output.{outcome}
-use Rattle.rules.specs.Calls.{problemOf, problemRules, clauseRules, roomRule, lentRules, lentAfter, rowsAfter, problemVerdict, clauseVerdict, headerVerdict, clauseLineVerdict, endVerdict, endEntries, backVerdict, backRows}
-use Rattle.rules.specs.declared.Refusal.the-variants.{Horizon, ClauseNumber, Room}
-use Rattle.rules.specs.declared.Verdict.{Verdict}
+use Rattle.rules.specs.Calls.{problemOf, problemRules, clauseRules, roomRule, lentRules, lentAfter, rowsAfter, clauseVerdict, headerVerdict, clauseLineVerdict, endVerdict, endEntries, backVerdict, backRows}
 use Rattle.rules.specs.declared.Verdict.the-variants.{Accepted}
 use Rattle.rules.specs.declared.Phase.{Phase}
 use Rattle.rules.specs.declared.Phase.the-variants.{ModelClosed}
-use Rattle.rules.proofs.Bools.{and-left, and-both}
-use Rattle.rules.proofs.Judging.{judge-nil, judge-cons, judge-append, inTurn-left, inTurn-right, inTurn-both}
+use Rattle.rules.proofs.Bools.{and-both}
+use Rattle.rules.proofs.Judging.{judge-nil, judge-cons, judge-append, inTurn-right, inTurn-both}
 use Rattle.rules.proofs.Bits.{length-packed}
 use Rattle.rules.proofs.Valid.{WellFormed}
 use Rattle.rules.proofs.Files.{accepted-well-formed}

@@ -18,7 +18,7 @@ use Rattle.rules.specs.Families.{Clause, formula, gives, supporters, C, 
 use Rattle.rules.proofs.Counting.{sumTo-le, sumTo-scale, sumTo-most, length-table, every-getD}
 use Rattle.rules.proofs.EachClause.{every-clause}
 use Rattle.rules.proofs.Valid.{WellFormed}
-use Rattle.rules.specs.Counts.{pairsBelow, sum, countTable}
+use Rattle.rules.specs.Counts.{pairsBelow, countTable}
 use Rattle.rules.proofs.Counts.{length-most, length-when, C-is}
 
 -- ---- N and C

@@ -1,19 +1,18 @@
 -- What it says of an assignment that each clause of a family is true, family by family, in both directions.
 -- Assumes nothing.
-use mathlib.Core.Path.{_≡_, refl, sym, ap, _∙_}
+use mathlib.Core.Path.{_≡_, refl, ap}
 use mathlib.Core.Logic.{_⊎_, inl, inr, ⊎-elim}
-use mathlib.Core.Bool.{Bool, true, false, not, _||_}
-use mathlib.Core.List.{List, [], _∷_}
-use Prim.Native.Nat.{ℕ, suc, _+_, _-_, _≤_, _<_}
-use native.Mathlib.Omega.{arith}
+use mathlib.Core.Bool.{Bool, true, false, not}
+use mathlib.Core.List.{[], _∷_}
+use Prim.Native.Nat.{ℕ, suc, _-_, _<_}
 use lib.ListN.{length}
-use Rattle.rules.specs.Counting.{forEach, table, when, any}
-use Rattle.rules.specs.Task.{Task, n, d, A, startValue, pair, action}
+use Rattle.rules.specs.Counting.{table, when, any}
+use Rattle.rules.specs.Task.{n, d, A, startValue, pair, action}
 use Rattle.rules.specs.Problem.{Problem}
 use Rattle.rules.specs.Numbering.{valueNumber, actionNumber}
 use Rattle.rules.specs.Families.{Literal, plus, minus, Clause, pairNumber, gives, supporters, formula}
 use Rattle.rules.specs.Truth.{Model, literalTrue, clauseTrue, satisfies}
-use Rattle.rules.proofs.Bools.{either, clash, or-cases, or-left, or-right, not-true, not-false}
+use Rattle.rules.proofs.Bools.{either, clash, or-cases, or-left, or-right, not-true}
 use Rattle.rules.proofs.Counting.{any-forEach, one-of}
 use Rattle.rules.proofs.EachClause.{EachClause, each-clause, every-clause}
 

@@ -19,7 +19,7 @@ use Rattle.rules.specs.Truth.{Model, satisfies, assigned, completion}
 use Rattle.rules.specs.Walk.{scheduleRules, CarriedOut, Good, isPlan}
 use Rattle.rules.specs.Readings.{scheduleOf, assignmentOf, rowsOf}
 use Rattle.rules.specs.Output.{outcome}
-use Rattle.rules.specs.declared.Refusal.the-variants.{FalseClause}
+use Rattle.rules.specs.declared.Refusal.the-variants.{UnmetClause}
 use Rattle.rules.specs.declared.Verdict.the-variants.{Accepted, Refused}
 use Rattle.rules.specs.declared.Phase.{Phase}
 use Rattle.rules.specs.declared.Phase.the-variants.{ModelClosed}
@@ -39,7 +39,7 @@ module _ (T : Task) (k : ℕ) where
     pub header :
         headerLine P ≡ ascii "p cnf " ++ decimal (k * (S T + A T) + S T) ++ (space ∷ []) ++ decimal (sum (countTable T k)) ++ (lf ∷ [])
     pub model : (phase : Phase) (rows : Rows) → (outcome P phase rows ≡ Accepted) ↔ ModelHolds P phase rows
-    pub refused : (rows : Rows) (c : ℕ) → (outcome P ModelClosed rows ≡ Refused (FalseClause c)) ↔ LowestUnmet P rows c
+    pub refused : (rows : Rows) (c : ℕ) → (outcome P ModelClosed rows ≡ Refused (UnmetClause c)) ↔ LowestUnmet P rows c
     pub states : (M : Model) → scheduleOf P M ≡ scheduleOf P (assigned (completion P M))
     pub schedule : (entries : List ℕ) → (judge (scheduleRules T k entries) ≡ Accepted) ↔ CarriedOut T k entries
     pub rows-hold : (entries : List ℕ) (rows : Rows) (i : ℕ) → i < N P

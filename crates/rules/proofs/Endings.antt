@@ -17,7 +17,7 @@ use Rattle.rules.specs.Rows.{Rows}
 use Rattle.rules.specs.Truth.{clauseTrue, satisfies, modelIn}
 use Rattle.rules.specs.Output.{ending, modelRules, outcome}
 use Rattle.rules.specs.declared.Refusal.{Refusal}
-use Rattle.rules.specs.declared.Refusal.the-variants.{FileLength, ContentsRow, BodyLength, DomainSize, StartValue, GoalPair, ActionAtFault, Horizon, ClauseNumber, Room, Grammar, OutOfPlace, OverN, GivenBefore, Unfinished, FalseClause, Unsatisfiable, Unknown, EntryOverA, DoesNotApply, GoalUnmet, AgainstFormat, AxiomOrCondition, OtherVersion}
+use Rattle.rules.specs.declared.Refusal.the-variants.{FileLength, ContentsRow, BodyLength, DomainSize, StartValue, GoalPair, ActionAtFault, Horizon, ClauseNumber, Room, Grammar, OutOfPlace, OverN, GivenBefore, Unfinished, UnmetClause, Unsatisfiable, Unknown, EntryOverA, DoesNotApply, GoalUnmet, AgainstFormat, AxiomOrCondition, OtherVersion}
 use Rattle.rules.specs.declared.Verdict.the-variants.{Accepted, Refused}
 use Rattle.rules.specs.declared.Phase.{Phase}
 use Rattle.rules.specs.declared.Phase.the-variants.{NoStatus, ModelOpen, ModelClosed, SaidUnsatisfiable, SaidUnknown}
@@ -81,7 +81,7 @@ module _ (P : Problem) (rows : Rows) where
         met-before = λ i h. not-false _ (first-before (C P) isUnmet i h);
       }
 
-  refuses : eqb lowest (C P) ≡ false → outcome P ModelClosed rows ≡ Refused (FalseClause lowest)
+  refuses : eqb lowest (C P) ≡ false → outcome P ModelClosed rows ≡ Refused (UnmetClause lowest)
   unfolding outcome modelRules
   refuses f = judge-refused _ _ f
 
@@ -89,7 +89,7 @@ module _ (P : Problem) (rows : Rows) where
   unfolding outcome modelRules
   accepts t = judge-passed _ _ t ∙ judge-nil
 
-  pub seventeen : (c : ℕ) → (outcome P ModelClosed rows ≡ Refused (FalseClause c)) ↔ LowestUnmet c
+  pub seventeen : (c : ℕ) → (outcome P ModelClosed rows ≡ Refused (UnmetClause c)) ↔ LowestUnmet c
   seventeen c = (
     λ h.
         ⊎-elim (λ t. refused-not (sym h ∙ accepts t))
@@ -102,7 +102,7 @@ module _ (P : Problem) (rows : Rows) where
     λ l.
         let is : lowest ≡ c = first-is (C P) isUnmet c (l .there) (ap not (l .unmet)) (λ i h. ap not (l .met-before i h)) in
         ⊎-elim (λ t. let e : lowest ≡ C P = eqb-true _ _ t in absurd (let b = l .there in omega arith))
-        (λ f. refuses f ∙ ap (λ c. Refused (FalseClause c)) is)
+        (λ f. refuses f ∙ ap (λ c. Refused (UnmetClause c)) is)
         (either (eqb lowest (C P))),
   )
 
@@ -125,7 +125,7 @@ never-16 (OutOfPlace i) = refl
 never-16 (OverN i) = refl
 never-16 (GivenBefore i) = refl
 never-16 Unfinished = refl
-never-16 (FalseClause c) = refl
+never-16 (UnmetClause c) = refl
 never-16 Unsatisfiable = refl
 never-16 Unknown = refl
 never-16 (EntryOverA t) = refl

@@ -3,13 +3,13 @@
 use mathlib.Core.Path.{_≡_, refl, sym, ap, _∙_}
 use mathlib.Core.Bool.{Bool, true}
 use mathlib.Core.List.{List, [], _∷_, _++_, map}
-use Prim.Native.Nat.{ℕ, _+_, _*_, _%_, _/_, _≤_, _<_}
+use Prim.Native.Nat.{ℕ, _+_, _%_, _/_, _≤_, _<_}
 use native.Mathlib.Omega.{arith}
 use borrow.Author.Tests.{lt-ltb, eq-eqb}
 use lib.Dec.{ltb, eqb}
 use lib.ListN.{length, getD, length-append}
 use Rattle.rules.specs.Counting.{sumTo, every, joined}
-use Rattle.rules.specs.Limits.{maxFile, maxAction, byteValues, contentsBytes, contentsRows, pairBytes, countBytes}
+use Rattle.rules.specs.Limits.{maxFile, maxAction, byteValues, contentsBytes, contentsRows, pairBytes}
 use Rattle.rules.specs.Task.{Pair, Action, Task, n, A, startValue, pair, action, Valid}
 use Rattle.rules.specs.File.{contentsRules, contentsVerdict, body, pairsAt, actionIn, rests, isWhole, taskOf, fileRules, fileVerdict, pairText, actionText, bodiesOf, bytes16, contentsFrom, fileOf}
 use Rattle.rules.specs.declared.Verdict.the-variants.{Accepted}

@@ -1,7 +1,7 @@
 -- The pairing down to the words: an accepted pair of rows states a schedule whose own rows hold its completion, and the rows of a good schedule are
 -- accepted and state it.
 -- Assumes nothing.
-use mathlib.Core.Path.{_≡_, refl, sym, ap, _∙_}
+use mathlib.Core.Path.{_≡_, refl, ap, _∙_}
 use mathlib.Core.Bool.{Bool, true, false}
 use mathlib.Core.List.{List}
 use Prim.Native.Nat.{ℕ, suc, _-_, _≤_, _<_}
@@ -21,7 +21,6 @@ use Rattle.rules.specs.declared.Phase.the-variants.{ModelClosed}
 use Rattle.rules.proofs.Endings.{ModelHolds}
 use Rattle.rules.proofs.Schedules.{assignment-good, schedule-back}
 use Rattle.rules.proofs.Completed.{model-back}
-use Rattle.rules.proofs.Demands.{Demand2}
 use Rattle.rules.proofs.Proved.{demand2}
 
 module _ (T : Task) (fine : WellFormed T) (k : ℕ) where

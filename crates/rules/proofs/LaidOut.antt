@@ -1,7 +1,7 @@
 -- An assignment laid out in the order of the numbering: what stands at the number of a value or of an action, and that nothing else stands there.
 -- Assumes nothing.
-use mathlib.Core.Path.{_≡_, refl, sym, ap, ap₂, _∙_}
-use mathlib.Core.Logic.{_⊎_, inl, inr, ⊎-elim}
+use mathlib.Core.Path.{_≡_, sym, ap, ap₂, _∙_}
+use mathlib.Core.Logic.{_⊎_, ⊎-elim}
 use mathlib.Core.Bool.{Bool, false}
 use mathlib.Core.List.{List, [], _∷_, _++_}
 use Prim.Native.Nat.{ℕ, suc, _+_, _-_, _*_, _≤_, _<_}
@@ -13,8 +13,8 @@ use Rattle.rules.specs.Task.{Task, n, d, off, S, A}
 use Rattle.rules.specs.Problem.{Problem}
 use Rattle.rules.specs.Numbering.{stride, valueNumber, actionNumber, N}
 use Rattle.rules.proofs.Bools.{below-or}
-use Rattle.rules.proofs.Counting.{sumTo-ext, sumTo-const, sumTo-part, length-forEach, length-table, forEach-ext, getD-forEach, getD-table}
-use Rattle.rules.proofs.Numbering.{value-place, step-before, AtValue, AtAction, ValueAt, ActionAt, numbered, value-number-positive, action-number-positive}
+use Rattle.rules.proofs.Counting.{sumTo-ext, sumTo-const, length-forEach, length-table, forEach-ext, getD-forEach, getD-table}
+use Rattle.rules.proofs.Numbering.{value-place, step-before, AtValue, AtAction, numbered}
 
 -- what an assignment says of value v of x at step s, and of action a at step s
 abbrev pub Values : Type 0

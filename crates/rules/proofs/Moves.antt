@@ -3,7 +3,7 @@
 use mathlib.Core.Path.{_≡_, refl, sym, ap, _∙_}
 use mathlib.Core.Logic.{_⊎_, inl, inr, ⊎-elim}
 use mathlib.Core.Bool.{Bool, true, false, cond}
-use mathlib.Core.List.{List, [], _∷_, _++_}
+use mathlib.Core.List.{List, [], _∷_}
 use Prim.Native.Nat.{ℕ, zero, suc, _+_, _-_, _≤_, _<_}
 use native.Mathlib.Omega.{arith}
 use borrow.Author.Tests.{eqb-true, eqb-false}
@@ -12,10 +12,10 @@ use lib.ListN.{length, getD, set, length-set, length-append, List·getD-append, 
 use lib.Seq.{getD-set-same, getD-set-other, set-getD}
 use Rattle.rules.specs.Counting.{every}
 use Rattle.rules.specs.Limits.{maxVariables}
-use Rattle.rules.specs.Task.{Pair, Action, Task, n, d, A, startValue, pair, action}
+use Rattle.rules.specs.Task.{Pair, Task, n, A, startValue, pair, action}
 use Rattle.rules.specs.Walk.{State, startState, holds, setPairs, apply}
 use Rattle.rules.proofs.Bools.{either, and-left, and-right, below-or, below-suc}
-use Rattle.rules.proofs.Valid.{InOrder, Inside, ActionFine, WellFormed}
+use Rattle.rules.proofs.Valid.{InOrder, WellFormed}
 
 -- ---- setting pairs
 

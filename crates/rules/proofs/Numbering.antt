@@ -1,11 +1,10 @@
 -- The numbering is one to one: different values and actions at different steps have different formula numbers, and together these are exactly 1 to N.
 -- Assumes nothing.
-use mathlib.Core.Path.{_≡_, refl, sym, ap, _∙_}
+use mathlib.Core.Path.{_≡_, ap}
 use mathlib.Core.Logic.{_⊎_, inl, inr, ⊎-elim}
-use Prim.Native.Nat.{ℕ, suc, _+_, _-_, _*_, _≤_, _<_}
+use Prim.Native.Nat.{ℕ, _+_, _-_, _*_, _≤_, _<_}
 use native.Mathlib.Nat.{mul-le-mul-right, suc-mul}
 use native.Mathlib.Omega.{arith}
-use Rattle.rules.specs.Counting.{sumTo}
 use Rattle.rules.specs.Task.{Task, n, d, off, S, A}
 use Rattle.rules.specs.Problem.{Problem}
 use Rattle.rules.specs.Numbering.{stride, valueNumber, actionNumber, N}

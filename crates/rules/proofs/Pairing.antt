@@ -3,26 +3,26 @@
 use mathlib.Core.Path.{_≡_, refl, sym, ap, _∙_}
 use mathlib.Core.Logic.{_⊎_, inl, inr, ⊎-elim}
 use mathlib.Core.Bool.{Bool, true, false, _&&_}
-use mathlib.Core.List.{List, [], _∷_}
-use Prim.Native.Nat.{ℕ, zero, suc, _+_, _-_, _≤_, _<_}
+use mathlib.Core.List.{List}
+use Prim.Native.Nat.{ℕ, zero, suc, _-_, _≤_, _<_}
 use native.Mathlib.Omega.{arith}
 use borrow.Author.Tests.{eqb-true, eq-eqb}
 use lib.Dec.{eqb}
 use lib.ListN.{length, getD}
 use Rattle.rules.specs.Counting.{every, any}
-use Rattle.rules.specs.Task.{Pair, Task, n, d, A, startValue, pair, action}
+use Rattle.rules.specs.Task.{Pair, n, d, A, pair, action}
 use Rattle.rules.specs.Problem.{Problem}
 use Rattle.rules.specs.Numbering.{valueNumber, actionNumber, N}
 use Rattle.rules.specs.Families.{gives, pairNumber, formula}
 use Rattle.rules.specs.Truth.{satisfies, assigned}
-use Rattle.rules.specs.Walk.{State, startState, holds, applies, reached}
-use Rattle.rules.proofs.Bools.{either, clash, and-left, and-right, and-both, same-truth, below-or}
+use Rattle.rules.specs.Walk.{State, holds, applies, reached}
+use Rattle.rules.proofs.Bools.{either, and-left, and-right, and-both, same-truth, below-or}
 use Rattle.rules.proofs.Counting.{every-by, every-getD, any-at, any-where}
-use Rattle.rules.proofs.Valid.{Inside, InOrder, ActionFine, WellFormed}
+use Rattle.rules.proofs.Valid.{Inside, WellFormed}
 use Rattle.rules.proofs.Numbering.{AtValue, AtAction}
 use Rattle.rules.proofs.LaidOut.{Moves, Values, layout, layout-value, layout-action, laid-out}
 use Rattle.rules.proofs.Clauses.{Facts, facts, satisfied}
-use Rattle.rules.proofs.Moves.{SetBy, MovedBy, Unmoved, pairs-apart, carried-at, walked, length-walked, start-at}
+use Rattle.rules.proofs.Moves.{SetBy, pairs-apart, carried-at, walked, length-walked, start-at}
 
 -- all that the pairing asks of the exclusion rule: two actions that do not exclude each other never set one variable to two values
 abbrev pub Agreeing : Problem → Type 0

@@ -1,11 +1,11 @@
 -- Demands 2 and 3 hold, for every valid task and every horizon.
 -- Assumes nothing.
-use mathlib.Core.Path.{_≡_, refl, sym, ap, _∙_}
+use mathlib.Core.Path.{refl, sym, ap, _∙_}
 use mathlib.Core.Bool.{Bool, true, false}
 use mathlib.Core.List.{List, _∷_, [], _++_}
-use Prim.Native.Nat.{ℕ, suc, _-_, _≤_, _<_}
+use Prim.Native.Nat.{ℕ, _-_}
 use native.Mathlib.Omega.{arith}
-use lib.ListN.{length, getD, replicate, length-replicate, getD-replicate}
+use lib.ListN.{length, replicate, length-replicate, getD-replicate}
 use lib.Seq.{take-all}
 use Rattle.rules.specs.Task.{Task, Valid}
 use Rattle.rules.specs.Problem.{Problem, problem}
@@ -13,7 +13,7 @@ use Rattle.rules.specs.Numbering.{N}
 use Rattle.rules.specs.Families.{families, formula}
 use Rattle.rules.specs.Text.{ascii, decimal, space, lf, headerLine}
 use Rattle.rules.specs.Truth.{assigned}
-use Rattle.rules.specs.Walk.{CarriedOut, Good}
+use Rattle.rules.specs.Walk.{CarriedOut}
 use Rattle.rules.specs.Readings.{scheduleOf, assignmentOf, rowsOf}
 use Rattle.rules.proofs.Valid.{WellFormed, valid-well-formed}
 use Rattle.rules.proofs.Bits.{packed-bit}
@@ -21,7 +21,7 @@ use Rattle.rules.proofs.Counts.{counts, C-is}
 use Rattle.rules.proofs.Endings.{accepted-holds, holds-accepted, seventeen}
 use Rattle.rules.proofs.Schedules.{carried-out, out-carried, length-assignment, length-schedule, assignment-good, schedule-back}
 use Rattle.rules.proofs.Completed.{length-completion, unnamed-false, named-kept, own-completion, completed-schedule, completed-true, model-good, model-back}
-use Rattle.rules.proofs.Plans.{movesOf, moves-most, schedule-plan, padded, length-padded, plan-schedule}
+use Rattle.rules.proofs.Plans.{movesOf, moves-most, schedule-plan, padded, plan-schedule}
 use Rattle.rules.proofs.Demands.{Demand2, Satisfying, Demand3}
 
 pub demand2 : (T : Task) (k : ℕ) → Demand2 T k

@@ -5,7 +5,7 @@ use mathlib.Core.Path.{_≡_, refl}
 use mathlib.Core.List.{List, [], _∷_, _++_, map}
 use Prim.Native.Nat.{ℕ}
 use Prim.Native.String.{String}
-use lib.ListN.{length, replicate}
+use lib.ListN.{length}
 use Rattle.rules.specs.Counting.{sumTo, first, forEach, forPairs, every, any, joined}
 use Rattle.rules.specs.Answers.{judge, answerToLine}
 use Rattle.rules.specs.Task.{pairAtFault, sizeAtFault, startAtFault, listInOrder, actionInOrder, actionAtFault, taskRules}
@@ -13,7 +13,7 @@ use Rattle.rules.specs.File.{bytes16, taskOf, body, contentsRules, rowAt
 use Rattle.rules.specs.Numbering.{N, valueNumber, actionNumber}
 use Rattle.rules.specs.Families.{C, clause, formula, families, family1, family2, family3, family4, family5, family6, family7, family8, supporters}
 use Rattle.rules.specs.Text.{ascii, decimalUpTo, decimal, literalText, clauseLine, headerLine, clauseLines, formulaText, refusalLine}
-use Rattle.rules.specs.Rows.{Rows, bitOfVariable, withVariable, store, storeAll}
+use Rattle.rules.specs.Rows.{bitOfVariable, withVariable, store, storeAll}
 use Rattle.rules.specs.Truth.{literalTrue, clauseTrue}
 use Rattle.rules.specs.Readings.{trueAction, entryOf, scheduleOf}
 use Rattle.rules.specs.Lines.{pieces, reach, isNumber, valueFrom, variableOf, literalOf, wordRules, scanWord, scanPiece, scanPieces, scanLine, agree, same, saysSatisfiable, saysUnsatisfiable, saysUnknown, isStatus, statusReach, phaseSaid, kindOf, kindVerdict, lineVerdict, phaseAfter, named, rowsFit, readLine}

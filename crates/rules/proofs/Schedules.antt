@@ -1,30 +1,30 @@
 -- Rule 1: a schedule of entries is a run with at most one move a step. With the pairing this is demand 3.
 -- Assumes nothing.
 use mathlib.Core.Path.{_≡_, refl, sym, ap, _∙_}
-use mathlib.Core.Logic.{_⊎_, inl, inr, ⊎-elim}
+use mathlib.Core.Logic.{_⊎_, ⊎-elim}
 use mathlib.Core.Bool.{Bool, true, false, cond, not}
-use mathlib.Core.List.{List, [], _∷_, _++_}
-use Prim.Native.Nat.{ℕ, zero, suc, _+_, _-_, _≤_, _<_}
+use mathlib.Core.List.{List}
+use Prim.Native.Nat.{ℕ, zero, suc, _-_, _≤_, _<_}
 use native.Mathlib.Omega.{arith}
-use borrow.Author.Tests.{eqb-true, eqb-false, eq-eqb, ne-eqb, ltb-true, ltb-false, lt-ltb, le-ltb}
+use borrow.Author.Tests.{eqb-true, eq-eqb, ne-eqb, ltb-false, lt-ltb, le-ltb}
 use lib.Dec.{eqb, ltb}
 use lib.ListN.{length, getD, take, List·getD-eq-default}
 use lib.Seq.{ext-getD, length-take-le, getD-take}
-use Rattle.rules.specs.Counting.{first, every, forEach, table}
+use Rattle.rules.specs.Counting.{first}
 use Rattle.rules.specs.Answers.{judge}
-use Rattle.rules.specs.Task.{Pair, Task, n, d, A, pair, action}
+use Rattle.rules.specs.Task.{Task, A, pair, action}
 use Rattle.rules.specs.Problem.{Problem, problem}
 use Rattle.rules.specs.Numbering.{actionNumber, N}
-use Rattle.rules.specs.Families.{plus, formula}
+use Rattle.rules.specs.Families.{formula}
 use Rattle.rules.specs.Truth.{Model, literalTrue, satisfies, assigned}
-use Rattle.rules.specs.Walk.{State, startState, holds, applies, setPairs, apply, reached, entry, entryApplies, afterEntry, stateAt, scheduleRules, CarriedOut}
+use Rattle.rules.specs.Walk.{State, holds, applies, setPairs, apply, reached, entry, entryApplies, afterEntry, stateAt, scheduleRules, CarriedOut}
 use Rattle.rules.specs.Readings.{trueAction, entryOf, scheduleOf, valueBits, actionBits, assignmentOf}
 use Rattle.rules.specs.declared.Verdict.the-variants.{Accepted}
-use Rattle.rules.proofs.Bools.{either, clash, not-true, not-false, below-or, same-truth}
-use Rattle.rules.proofs.Counting.{first-le, first-at, first-before, first-ext, first-none, first-is, none-at, none-test, length-table, getD-table, forEach-ext, every-by, every-getD}
+use Rattle.rules.proofs.Bools.{clash, not-false, below-or, same-truth}
+use Rattle.rules.proofs.Counting.{first-at, first-before, first-ext, first-none, first-is, none-at, none-test, length-table, getD-table, every-by, every-getD}
 use Rattle.rules.proofs.Judging.{judge-head, judge-tail, judge-cons, judge-nil}
 use Rattle.rules.proofs.Valid.{WellFormed}
-use Rattle.rules.proofs.LaidOut.{Moves, Values, valuesAt, stepAt, layout, length-layout, layout-ext, layout-action}
+use Rattle.rules.proofs.LaidOut.{Moves, valuesAt, stepAt, layout, length-layout, layout-ext, layout-action}
 use Rattle.rules.proofs.Moves.{Chosen, carried, carried-none, carried-one, walked, walked-ext}
 use Rattle.rules.proofs.Pairing.{Agreeing, Run, walkedValues, assignmentBy, movesIn, run-of, is-its-run, run-satisfies}
 

@@ -1,15 +1,15 @@
 -- Numbers that a solver says in decimal are read as what they say: the text of a literal is a number of the grammar and names that literal.
 -- Assumes nothing.
 use Prim.Native.Char.{code}
-use mathlib.Core.Path.{_≡_, refl, sym, ap, _∙_}
+use mathlib.Core.Path.{_≡_, refl, ap, _∙_}
 use mathlib.Core.Logic.{⊎-elim}
-use mathlib.Core.Bool.{Bool, true, false, cond, not, _&&_, _||_}
+use mathlib.Core.Bool.{Bool, true, false, not, _||_}
 use mathlib.Core.List.{List, [], _∷_, _++_}
-use Prim.Native.Nat.{ℕ, zero, suc, _+_, _-_, _*_, _/_, _%_, _^_, _≤_, _<_, min}
+use Prim.Native.Nat.{ℕ, zero, suc, _+_, _-_, _*_, _/_, _%_, _^_, _≤_, _<_}
 use native.Mathlib.Omega.{arith}
-use borrow.Author.Tests.{lt-ltb, le-leb, leb-true, eq-eqb, ne-eqb}
-use lib.Dec.{leb, ltb, eqb, lit<, leb·zero}
-use lib.ListN.{length, getD, drop}
+use borrow.Author.Tests.{lt-ltb, le-leb, eq-eqb, ne-eqb}
+use lib.Dec.{eqb, lit<, leb·zero}
+use lib.ListN.{length}
 use Rattle.rules.specs.Counting.{first, every, any}
 use Rattle.rules.specs.Limits.{maxDigits, maxLine}
 use Rattle.rules.specs.File.{byte}
@@ -20,7 +20,7 @@ use Rattle.rules.specs.declared.Verdict.the-variants.{Accepted}
 use Rattle.rules.specs.declared.Phase.the-variants.{NoStatus, ModelOpen, ModelClosed}
 use Rattle.rules.specs.declared.LineAnswer.{LineAnswer}
 use Rattle.rules.specs.Text.{ascii, space, digit0, dash, decimal, literalText}
-use Rattle.rules.specs.Lines.{pieces, isDigit, isNegative, signBytes, digits, reach, isNumber, valueFrom, variableOf, literalOf, Scan, wordRules, scanWord, scanPiece, scanPieces, scanStart, scanLine, agree, same, saysSatisfiable, saysUnsatisfiable, saysUnknown, isStatus, phaseSaid, kindOf, kindVerdict, lineVerdict, phaseAfter, named, rowsFit, readLine}
+use Rattle.rules.specs.Lines.{pieces, isDigit, digits, reach, isNumber, valueFrom, variableOf, literalOf, Scan, wordRules, scanWord, scanPiece, scanPieces, scanStart, scanLine, agree, same, saysSatisfiable, saysUnsatisfiable, saysUnknown, isStatus, phaseSaid, kindOf, kindVerdict, lineVerdict, phaseAfter, named, rowsFit, readLine}
 use Rattle.rules.proofs.Bools.{and-left, and-right, and-both, or-right, not-true, below-or}
 use Rattle.rules.proofs.Judging.{judge-cons, judge-nil}
 use Rattle.rules.proofs.Counting.{every-getD, first-none}

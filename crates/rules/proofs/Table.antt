@@ -8,13 +8,13 @@ use lib.ListN.{length, getD, set, replicate}
 use Rattle.rules.specs.Counting.{sumTo, first, forEach, forPairs, when, every, any, joined}
 use Rattle.rules.specs.Limits.{maxLiterals}
 use Rattle.rules.specs.Answers.{judge, answerTo}
-use Rattle.rules.specs.Task.{Task, pairAtFault, sizeAtFault, startAtFault, listInOrder, actionInOrder, actionAtFault, taskRules}
+use Rattle.rules.specs.Task.{pairAtFault, sizeAtFault, startAtFault, listInOrder, actionInOrder, actionAtFault, taskRules}
 use Rattle.rules.specs.File.{taskOf, body, contentsRules, rowAtFault, pairsAt, actionIn, restsUpTo, rests, isWhole, fileRules}
-use Rattle.rules.specs.Problem.{Problem, problem}
+use Rattle.rules.specs.Problem.{Problem}
 use Rattle.rules.specs.Numbering.{N, valueNumber, actionNumber}
 use Rattle.rules.specs.Families.{C, clause, formula, families, family1, family2, family3, family4, family5, family6, family7, family8, supporters}
 use Rattle.rules.specs.Text.{ascii, decimalUpTo, decimal, literalText, clauseLine}
-use Rattle.rules.specs.Rows.{Rows, packed, bitOfVariable}
+use Rattle.rules.specs.Rows.{packed, bitOfVariable}
 use Rattle.rules.specs.Truth.{literalTrue, clauseTrue}
 use Rattle.rules.specs.Walk.{startState, holds, applies, setPairs, apply, stateAt, scheduleRules}
 use Rattle.rules.specs.Readings.{valueBits, actionBits, assignmentOf}

@@ -1,20 +1,19 @@
 -- A valid task in words: what refusals 3 to 7, none of which applies, say of each of its parts.
 -- Assumes nothing.
-use mathlib.Core.Path.{_≡_, refl, sym, ap, _∙_}
+use mathlib.Core.Path.{_≡_, refl, ap}
 use mathlib.Core.Bool.{Bool, true, false, not, _&&_}
-use mathlib.Core.List.{List, [], _∷_}
-use Prim.Native.Nat.{ℕ, zero, suc, _+_, _≤_, _<_, min}
-use native.Mathlib.Omega.{arith}
+use mathlib.Core.List.{List}
+use Prim.Native.Nat.{ℕ, zero, suc, _≤_, _<_}
 use borrow.Author.Tests.{ltb-true, lt-ltb, leb-true, le-leb, eqb-true, eq-eqb}
 use lib.Dec.{leb, ltb, eqb}
 use lib.ListN.{length}
 use Rattle.rules.specs.Counting.{first}
 use Rattle.rules.specs.Limits.{maxVariables, maxDomain, maxValues, maxGoals, maxActions, maxPairs}
-use Rattle.rules.specs.Answers.{Rule, judge}
+use Rattle.rules.specs.Answers.{judge}
 use Rattle.rules.specs.Task.{Pair, Action, Task, n, d, S, A, startValue, pair, action, inside, rises, pairAtFault, sizeAtFault, startAtFault, listInOrder, actionInOrder, actionAtFault, taskRules, Valid}
 use Rattle.rules.specs.declared.Verdict.the-variants.{Accepted}
-use Rattle.rules.proofs.Bools.{and-left, and-right, and-both, not-true, not-false}
-use Rattle.rules.proofs.Counting.{first-le, none-at, none-test}
+use Rattle.rules.proofs.Bools.{and-left, and-right, and-both, not-false}
+use Rattle.rules.proofs.Counting.{none-at, none-test}
 use Rattle.rules.proofs.Judging.{judge-head, judge-tail, judge-cons, judge-nil}
 
 pub record Inside (T : Task) (p : Pair) : Type 0 where

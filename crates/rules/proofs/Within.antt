@@ -3,24 +3,23 @@
 -- Assumes nothing.
 use mathlib.Core.Path.{_≡_, refl, sym, ap, ap₂, _∙_}
 use mathlib.Core.Logic.{⊎-elim}
-use mathlib.Core.Bool.{Bool, true, cond, not, _&&_}
+use mathlib.Core.Bool.{Bool, true, cond, _&&_}
 use mathlib.Core.List.{List, [], _∷_}
 use Prim.Native.Nat.{ℕ, suc, _-_, _≤_, _<_}
 use native.Mathlib.Omega.{arith}
 use borrow.Author.Tests.{leb-true, le-leb}
 use lib.Dec.{leb, ltb}
-use lib.ListN.{length, getD}
-use Rattle.rules.specs.Counting.{first, forEach, table, every, any, when}
-use Rattle.rules.specs.Task.{Pair, Task, n, d, A, pair, action}
+use Rattle.rules.specs.Counting.{every, any}
+use Rattle.rules.specs.Task.{Pair, n, d, A}
 use Rattle.rules.specs.Problem.{Problem}
 use Rattle.rules.specs.Numbering.{valueNumber, actionNumber, N}
 use Rattle.rules.specs.Families.{Literal, plus, minus, Clause, pairNumber, gives, supporters, formula}
-use Rattle.rules.specs.Truth.{Model, literalTrue, clauseTrue, satisfies, assigned}
+use Rattle.rules.specs.Truth.{Model, literalTrue, clauseTrue, satisfies}
 use Rattle.rules.specs.Readings.{trueAction, entryOf, scheduleOf}
 use Rattle.rules.proofs.Bools.{and-left, and-right, and-both, or-cases, or-left, or-right, same-truth}
-use Rattle.rules.proofs.Counting.{first-ext, forEach-ext, every-one, every-forEach, every-table, every-when, every-getD}
+use Rattle.rules.proofs.Counting.{first-ext, forEach-ext, every-one, every-forEach, every-table, every-when}
 use Rattle.rules.proofs.EachClause.{every-clause}
-use Rattle.rules.proofs.Valid.{WellFormed, InOrder, Inside, ActionFine}
+use Rattle.rules.proofs.Valid.{WellFormed, Inside}
 use Rattle.rules.proofs.Numbering.{AtValue, AtAction, value-number-positive, value-number-within, action-number-positive, action-number-within}
 
 abbrev pub variableIn : Literal → ℕ

@@ -6,7 +6,7 @@ use mathlib.Core.List.{List, [], _∷_}
 use lib.Dec.{eqb}
 use Rattle.rules.specs.Counting.{first}
 use Rattle.rules.specs.declared.Refusal.{Refusal}
-use Rattle.rules.specs.declared.Refusal.the-variants.{FileLength, ContentsRow, BodyLength, DomainSize, StartValue, GoalPair, ActionAtFault, Horizon, ClauseNumber, Room, Grammar, OutOfPlace, OverN, GivenBefore, Unfinished, FalseClause, Unsatisfiable, Unknown, EntryOverA, DoesNotApply, GoalUnmet, AgainstFormat, AxiomOrCondition, OtherVersion}
+use Rattle.rules.specs.declared.Refusal.the-variants.{FileLength, ContentsRow, BodyLength, DomainSize, StartValue, GoalPair, ActionAtFault, Horizon, ClauseNumber, Room, Grammar, OutOfPlace, OverN, GivenBefore, Unfinished, UnmetClause, Unsatisfiable, Unknown, EntryOverA, DoesNotApply, GoalUnmet, AgainstFormat, AxiomOrCondition, OtherVersion}
 use Rattle.rules.specs.declared.Verdict.{Verdict}
 use Rattle.rules.specs.declared.LineAnswer.{LineAnswer}
 use Rattle.rules.specs.declared.Verdict.the-variants.{Accepted, Refused}
@@ -36,7 +36,7 @@ answerOf (OutOfPlace i) = answer 12 i
 answerOf (OverN i) = answer 13 i
 answerOf (GivenBefore i) = answer 14 i
 answerOf Unfinished = answer 15 0
-answerOf (FalseClause c) = answer 17 c
+answerOf (UnmetClause c) = answer 17 c
 answerOf Unsatisfiable = answer 18 0
 answerOf Unknown = answer 19 0
 answerOf (EntryOverA t) = answer 20 t

@@ -12,7 +12,7 @@ use Rattle.rules.specs.Text.{lf}
 use Rattle.rules.specs.Rows.{Rows, wordsFor, overRow}
 use Rattle.rules.specs.Truth.{clauseTrue, modelIn}
 use Rattle.rules.specs.Lines.{pieces, Progress, readLine}
-use Rattle.rules.specs.declared.Refusal.the-variants.{Unfinished, FalseClause, Unsatisfiable, Unknown}
+use Rattle.rules.specs.declared.Refusal.the-variants.{Unfinished, UnmetClause, Unsatisfiable, Unknown}
 use Rattle.rules.specs.declared.Verdict.{Verdict}
 use Rattle.rules.specs.declared.Phase.{Phase}
 use Rattle.rules.specs.declared.Phase.the-variants.{NoStatus, ModelOpen, ModelClosed, SaidUnsatisfiable, SaidUnknown}
@@ -68,7 +68,7 @@ ending ModelClosed = Verdict.Accepted
 
 -- 17: a clause has no true literal among those named
 unfoldable pub modelRules : Problem → Rows → List Rule
-modelRules P rows = noneAtFault (C P) (λ c. not (clauseTrue (modelIn rows) (clause P c))) FalseClause ∷ []
+modelRules P rows = noneAtFault (C P) (λ c. not (clauseTrue (modelIn rows) (clause P c))) UnmetClause ∷ []
 
 unfoldable pub outcome : Problem → Phase → Rows → Verdict
 outcome P phase rows = inTurn (ending phase) (judge (modelRules P rows))

@@ -17,7 +17,7 @@ pub enum Refusal {
     OverN(usize),
     GivenBefore(usize),
     Unfinished,
-    FalseClause(usize),
+    UnmetClause(usize),
     Unsatisfiable,
     Unknown,
     EntryOverA(usize),

@@ -11,7 +11,7 @@ use reader::limits::CONTENTS_BYTES;
 use reader::limits::COUNT_BYTES;
 use reader::limits::PAIR_BYTES;
 ghost use mathlib.Core.Path.{_≡_};
-ghost use Prim.Native.Nat.{_+_, _*_, _<_, _≤_};
+ghost use Prim.Native.Nat.{_+_, _*_, _<_};
 ghost use lib.ListN.{length};
 ghost use Rattle.rules.specs.Limits.{byteValues, pairBytes};
 ghost use Rattle.rules.specs.Task.{n, d, A as actionCount, startValue, pair, action};

@@ -1,6 +1,6 @@
 -- `model_verdict` meets its contract.
 -- Assumes nothing.
-use Rattle.checker.proofs.EndLaws.{clause-false, clauses-true}
+use Rattle.checker.proofs.EndLaws.{clause-unmet, clauses-met}
 use borrow.Author.Needs.{needs}
 use Rattle.checker.proofs.end.model_verdict.Statement.{statement}
 use Rattle.checker.proofs.end.model_verdict.Tie as tie
@@ -11,5 +11,5 @@ model-verdict-spec =
     (tie.spec
     (λ c κs. search needs)
     (λ c κs. search needs)
-    (λ c. search (needs, clause-false))
-    (λ c. search (needs, clauses-true)))
+    (λ c. search (needs, clause-unmet))
+    (λ c. search (needs, clauses-met)))

@@ -1,4 +1,4 @@
--- `in_family` meets its contract. The loop's invariant: the search has come to the step, and found nothing false before it.
+-- `in_family` meets its contract. The loop's invariant: the search has come to the step, and found nothing unmet before it.
 -- Assumes nothing.
 use Prim.Native.Nat.{_≤_, _-_}
 use Rattle.rows.specs.Lent.{lent}

@@ -1,4 +1,4 @@
--- `in_step` meets its contract. The loop's invariant: the search has come to item i, and found nothing false before it.
+-- `in_step` meets its contract. The loop's invariant: the search has come to item i, and found nothing unmet before it.
 -- Assumes nothing.
 use Prim.Native.Nat.{_≤_, _-_}
 use Rattle.rows.specs.Lent.{lent}

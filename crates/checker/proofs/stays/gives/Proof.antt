@@ -2,7 +2,7 @@
 -- Assumes nothing.
 use Rattle.rules.proofs.Loops.{none-yet, none-more}
 use mathlib.Core.Path.{_≡_}
-use Prim.Native.Nat.{_≤_, _+_, _-_}
+use Prim.Native.Nat.{_-_}
 use Rattle.rules.specs.Counting.{first}
 use Rattle.checker.specs.Staying.{effectIs}
 use Rattle.checker.proofs.StayLaws.{given-found, given-none, given-there}

@@ -5,14 +5,14 @@ use mathlib.Core.Path.{_≡_}
 use Prim.Native.Nat.{_≤_, _+_, _-_}
 use Rattle.rules.specs.Counting.{first}
 use Rattle.rows.specs.Lent.{lent}
-use Rattle.checker.specs.Order.{isFalse}
+use Rattle.checker.specs.Order.{isUnmet}
 use Rattle.checker.proofs.StayLaws.{stay-again, stay-all, stay-fails, stay-fits, stay-item, stay-step, stay-there}
 use borrow.Author.Needs.{needs}
 use Rattle.checker.proofs.stays.stay_clauses.Statement.{statement}
 use Rattle.checker.proofs.stays.stay_clauses.Tie as tie
 
 abbrev Inv-loop : tie.InvT-loop
-Inv-loop file index horizon given truth step x at values v₀ v = (v ≤ values) × (first (at + v) (isFalse file horizon (lent given truth)) ≡ at + v)
+Inv-loop file index horizon given truth step x at values v₀ v = (v ≤ values) × (first (at + v) (isUnmet file horizon (lent given truth)) ≡ at + v)
 
 abbrev μ-loop : tie.MeasureT-loop
 μ-loop file index horizon given truth step x at values v₀ v = values - v

@@ -2,7 +2,7 @@
 -- Assumes nothing.
 use Rattle.rules.proofs.Loops.{none-yet}
 use mathlib.Core.Path.{_≡_}
-use Prim.Native.Nat.{_≤_, _+_, _-_}
+use Prim.Native.Nat.{_≤_, _-_}
 use Rattle.rules.specs.Counting.{first}
 use Rattle.rows.specs.Lent.{lent}
 use Rattle.checker.specs.Staying.{supportsAt}

@@ -1,7 +1,6 @@
 -- `line_end` meets its contract: the bytes so far change nothing.
 -- Assumes nothing.
 use borrow.Author.Needs.{needs}
-use mathlib.Core.Path.{_≡_}
 use Prim.Native.Nat.{_-_, _≤_}
 use lib.ListN.{length}
 use Rattle.translator.specs.Intake.{Passed}

@@ -1,12 +1,12 @@
--- `lowest_false` meets its contract. The loop's invariant: the search has come to the family, and found nothing false before it.
+-- `lowest_unmet` meets its contract. The loop's invariant: the search has come to the family, and found nothing unmet before it.
 -- Assumes nothing.
 use Prim.Native.Nat.{_≤_, _-_}
 use Rattle.rows.specs.Lent.{lent}
 use Rattle.checker.specs.Order.{Reached, familyCount}
 use Rattle.checker.proofs.Moving.{families-done, family-fits, family-found, family-passed, start-here}
 use borrow.Author.Needs.{needs}
-use Rattle.checker.proofs.search.lowest_false.Statement.{statement}
-use Rattle.checker.proofs.search.lowest_false.Tie as tie
+use Rattle.checker.proofs.search.lowest_unmet.Statement.{statement}
+use Rattle.checker.proofs.search.lowest_unmet.Tie as tie
 
 abbrev Inv-loop : tie.InvT-loop
 Inv-loop file index horizon given truth family₀ at₀ family at = (family ≤ familyCount) × Reached file index (lent given truth) horizon family 0 0 at
@@ -14,8 +14,8 @@ Inv-loop file index horizon given truth family₀ at₀ family at = (family ≤ 
 abbrev μ-loop : tie.MeasureT-loop
 μ-loop file index horizon given truth family₀ at₀ family at = familyCount - family
 
-pub lowest-false-spec : {M : Type 1} → statement M
-lowest-false-spec =
+pub lowest-unmet-spec : {M : Type 1} → statement M
+lowest-unmet-spec =
     tie.close
     (tie.spec
     Inv-loop
