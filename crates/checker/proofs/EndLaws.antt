@@ -1,6 +1,6 @@
 -- The end of a reading, way by way.
 -- Assumes nothing.
-use mathlib.Core.Path.{_≡_, refl, sym, ap, ap₂, _∙_}
+use mathlib.Core.Path.{_≡_, sym, ap, ap₂, _∙_}
 use mathlib.Core.Bool.{Bool, true, false, not, _&&_}
 use mathlib.Core.List.{List, [], _∷_, _++_}
 use Prim.Native.Nat.{ℕ, _+_, _-_, _≤_, _<_}
@@ -19,11 +19,10 @@ use Rattle.rules.specs.Output.{ending, modelRules, outcome}
 use Rattle.rules.specs.Readings.{scheduleOf}
 use Rattle.rules.specs.Calls.{problemOf, problemRules, problemVerdict, lentAfter, endVerdict, endEntries}
 use Rattle.rules.specs.declared.Refusal.{Refusal}
-use Rattle.rules.specs.declared.Refusal.the-variants.{Room, UnmetClause, Unfinished, Unsatisfiable, Unknown}
+use Rattle.rules.specs.declared.Refusal.the-variants.{Room, UnmetClause}
 use Rattle.rules.specs.declared.Verdict.{Verdict}
 use Rattle.rules.specs.declared.Verdict.the-variants.{Accepted, Refused}
 use Rattle.rules.specs.declared.Phase.{Phase}
-use Rattle.rules.specs.declared.Phase.the-variants.{NoStatus, ModelOpen, ModelClosed, SaidUnsatisfiable, SaidUnknown}
 use Rattle.rules.proofs.Bools.{not-true, not-false, and-right}
 use Rattle.rules.proofs.Counting.{first-le, length-table}
 use Rattle.rules.proofs.Judging.{judge-refused, judge-passed, judge-append, judge-nil, judge-head, inTurn-left}
@@ -159,18 +158,5 @@ module _ (file given isTrue entries : List ℕ) (k : ℕ) (phase : Phase) (p : V
 
 -- ---- what the status says
 
-module _ (phase : Phase) where
-  pub said-none : phase ≡ NoStatus → Refused Unfinished ≡ ending phase
-  said-none e = rw e refl
-
-  pub said-open : phase ≡ ModelOpen → Refused Unfinished ≡ ending phase
-  said-open e = rw e refl
-
-  pub said-unsatisfiable : phase ≡ SaidUnsatisfiable → Refused Unsatisfiable ≡ ending phase
-  said-unsatisfiable e = rw e refl
-
-  pub said-unknown : phase ≡ SaidUnknown → Refused Unknown ≡ ending phase
-  said-unknown e = rw e refl
-
-  pub said-closed : phase ≡ ModelClosed → Accepted ≡ ending phase
-  said-closed e = rw e refl
+pub said : (phase p : Phase) (v : Verdict) → phase ≡ p → v ≡ ending p → v ≡ ending phase
+said phase p v e h = rw e h

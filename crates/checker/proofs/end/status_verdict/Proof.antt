@@ -1,6 +1,6 @@
 -- `status_verdict` meets its contract.
 -- Assumes nothing.
-use Rattle.checker.proofs.EndLaws.{said-closed, said-none, said-open, said-unknown, said-unsatisfiable}
+use Rattle.checker.proofs.EndLaws.{said}
 use borrow.Author.Needs.{needs}
 use Rattle.checker.proofs.end.status_verdict.Statement.{statement}
 use Rattle.checker.proofs.end.status_verdict.Tie as tie
@@ -14,8 +14,8 @@ status-verdict-spec =
     (λ c. search needs)
     (λ c. search needs)
     (λ c. search needs)
-    (λ c. search (needs, said-none, said-open, said-unsatisfiable, said-unknown, said-closed))
-    (λ c. search (needs, said-none, said-open, said-unsatisfiable, said-unknown, said-closed))
-    (λ c. search (needs, said-none, said-open, said-unsatisfiable, said-unknown, said-closed))
-    (λ c. search (needs, said-none, said-open, said-unsatisfiable, said-unknown, said-closed))
-    (λ c. search (needs, said-none, said-open, said-unsatisfiable, said-unknown, said-closed)))
+    (λ c. search (needs, said))
+    (λ c. search (needs, said))
+    (λ c. search (needs, said))
+    (λ c. search (needs, said))
+    (λ c. search (needs, said)))

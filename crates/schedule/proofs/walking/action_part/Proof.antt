@@ -13,5 +13,5 @@ action-part-spec =
     (λ c κs. search (needs, action-few))
     (λ c. search (needs, place-within))
     (λ c. search (needs, place-within))
-    (λ c. search (needs, place-within))
+    (λ c. search needs)
     (λ c. search (needs, part-is)))
