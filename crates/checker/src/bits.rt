@@ -39,6 +39,7 @@ pub fn pair_holds(
     counts_true(given, truth, unnamed, number)
 }
 
+// The same of a variable and one of its values.
 pub fn value_holds(
     file: &[u8],
     index: &[usize],

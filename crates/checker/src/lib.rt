@@ -1,5 +1,4 @@
-// The checker of models: the lowest clause without a true literal among those named, found on words, the schedule that a model states, and the end of a
-// reading.
+// The checker of models: the lowest unmet clause, found on words, the schedule that a model states, and the end of a reading.
 mod bits;
 pub mod end;
 mod families;

@@ -26,10 +26,11 @@ use Rattle.rules.specs.Readings.{scheduleOf, rowsHolding, rowsOf}
 use Rattle.rules.specs.Lines.{rowsFit}
 use Rattle.rules.specs.Calls.{problemOf}
 use Rattle.rules.specs.declared.Verdict.{Verdict}
-use Rattle.rules.specs.declared.Verdict.the-variants.{Accepted}
+use Rattle.rules.specs.declared.Refusal.the-variants.{UnmetClause}
+use Rattle.rules.specs.declared.Verdict.the-variants.{Accepted, Refused}
 use Rattle.rules.specs.declared.Phase.{Phase}
 use Rattle.rules.specs.declared.Phase.the-variants.{ModelClosed}
-use Rattle.rules.proofs.Endings.{ModelHolds}
+use Rattle.rules.proofs.Endings.{ModelHolds, LowestUnmet}
 use Rattle.rules.proofs.Unnamed.{Unnamed}
 use Rattle.formula.specs.declared.calls.CountsAnswer.{CountsAnswer}
 use Rattle.formula.specs.declared.calls.CountsAnswer.the-variants.{Found}
@@ -105,7 +106,7 @@ module _ (file : List ℕ) (k : ℕ) where
     pub entries-fit : k ≤ length entries
 
   -- Demand 2: the formula is exactly the eight families, in the stated order, with true counts; a closed model is accepted exactly if every clause has a
-  -- true literal among those named, and becomes the schedule that its completion states; a schedule becomes a model exactly if its moves can be carried
+  -- true literal among those named, else refused with 17 and the lowest that has none, and becomes the schedule that its completion states; a schedule becomes a model exactly if its moves can be carried
   -- out and reach the goal
   pub record Demand2 : Type 1 where
     pub families : (room after : ℕ → List ℤ) (answer : ℕ → LiteralsAnswer) → ((c : ℕ) → c < C P → length (clause P c) ≤ length (room c))
@@ -116,6 +117,8 @@ module _ (file : List ℕ) (k : ℕ) where
         → answer ≡ Found (k * (S (taskOf file) + A (taskOf file)) + S (taskOf file)) (sum (countTable (taskOf file) k))
     pub model : (rows : Rows) (entries after : List ℕ) (verdict : Verdict) → Ended file k ModelClosed rows entries verdict after
         → Enough rows entries → (verdict ≡ Accepted) ↔ (satisfies (modelIn rows) (formula P) ≡ true)
+    pub refused : (rows : Rows) (entries after : List ℕ) (verdict : Verdict) (c : ℕ) → Ended file k ModelClosed rows entries verdict after
+        → Enough rows entries → (verdict ≡ Refused (UnmetClause c)) ↔ LowestUnmet P rows c
     pub nothing-else : (phase : Phase) (rows : Rows) (entries after : List ℕ) → Ended file k phase rows entries Accepted after → ModelHolds P phase rows
     pub left-unnamed : (phase : Phase) (rows : Rows) (entries after : List ℕ) → Ended file k phase rows entries Accepted after
         → Unnamed (taskOf file) k (modelIn rows)

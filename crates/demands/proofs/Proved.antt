@@ -21,14 +21,15 @@ use Rattle.rules.specs.Rows.{Rows, wordsFor}
 use Rattle.rules.specs.Truth.{modelIn, completion}
 use Rattle.rules.specs.Walk.{CarriedOut}
 use Rattle.rules.specs.Readings.{scheduleOf, assignmentOf, rowsOf}
-use Rattle.rules.specs.Answers.{judge}
+use Rattle.rules.specs.Answers.{judge, inTurn}
 use Rattle.rules.specs.Lines.{rowsFit}
+use Rattle.rules.specs.Output.{outcome}
 use Rattle.rules.specs.Calls.{problemOf, problemVerdict, lentRules, endVerdict, endEntries, backVerdict, backRows}
 use Rattle.rules.specs.declared.Verdict.{Verdict}
 use Rattle.rules.specs.declared.Verdict.the-variants.{Accepted}
 use Rattle.rules.specs.declared.Phase.{Phase}
 use Rattle.rules.specs.declared.Phase.the-variants.{ModelClosed}
-use Rattle.rules.proofs.Endings.{ModelHolds, accepted-holds}
+use Rattle.rules.proofs.Endings.{ModelHolds, accepted-holds, seventeen}
 use Rattle.rules.proofs.Counts.{C-is}
 use Rattle.rules.proofs.Bools.{and-both}
 use Rattle.rules.proofs.Judging.{inTurn-right}
@@ -38,7 +39,7 @@ use Rattle.rules.proofs.Completed.{completed-schedule, model-good, model-back}
 use Rattle.rules.proofs.Proved as Rules
 use Rattle.rules.proofs.Valid.{WellFormed}
 use Rattle.rules.proofs.Files.{accepted-well-formed}
-use Rattle.rules.proofs.AtCalls.{CallsAnswer, CallsPair, within, calls-answer, calls-pair}
+use Rattle.rules.proofs.AtCalls.{CallsAnswer, CallsPair, within, lent-enough, calls-answer, calls-pair}
 use Rattle.formula.specs.declared.calls.CountsAnswer.{CountsAnswer}
 use Rattle.formula.specs.declared.calls.CountsAnswer.the-variants.{Found}
 use Rattle.formula.specs.declared.calls.LiteralsAnswer.{LiteralsAnswer}
@@ -104,6 +105,12 @@ module _ (file : List ℕ) (fine : fileVerdict file ≡ Accepted) (k : ℕ) (sma
   unfolding problemOf N
   true-counts = ap (Found (N P)) (C-is T k)
 
+  -- where enough is lent, a closed model's verdict is what its clauses say
+  closed-verdict : (rows : Rows) (entries : List ℕ) → rowsFit (N P) rows ≡ true → k ≤ length entries
+      → endVerdict file k ModelClosed rows entries ≡ outcome P ModelClosed rows
+  unfolding endVerdict
+  closed-verdict rows entries f l = ap (λ v. inTurn v (outcome P ModelClosed rows)) (lent-enough file fine k small rows entries f l)
+
   -- ---- an end that was accepted
 
   end-holds : (phase : Phase) (rows : Rows) (entries : List ℕ) → endVerdict file k phase rows entries ≡ Accepted → ModelHolds P phase rows
@@ -159,6 +166,9 @@ module _ (file : List ℕ) (fine : fileVerdict file ≡ Accepted) (k : ℕ) (sma
             let same = ended-verdict file k ModelClosed rows entries verdict after e in
             let exactly = answers .model ModelClosed rows entries (enough .rows-fit) (enough .entries-fit) in
             (λ h. exactly .0 (same ∙ h) .all-true, λ t. sym same ∙ exactly .1 (record { closed = refl; all-true = t }));
+        refused = λ rows entries after verdict c e enough.
+            let same = sym (ended-verdict file k ModelClosed rows entries verdict after e) ∙ closed-verdict rows entries (enough .rows-fit) (enough .entries-fit) in
+            (λ h. seventeen P rows c .0 (sym same ∙ h), λ l. same ∙ seventeen P rows c .1 l);
         nothing-else = holds;
         left-unnamed = λ phase rows entries after e. left phase rows entries after e;
         becomes-schedule = λ phase rows entries after e.

@@ -27,56 +27,40 @@ full-digit k j h =
     ∙ ap (λ q. q % 2) (high (2 ^ suc t - 1) j (ones-lt j))
     ∙ power-even t
 
--- ---- digits of two words put together
+-- ---- digits of two words put together, digit by digit
 
-lowest : (w h d : ℕ) → w ≡ h * 2 + d → d < 2 → w % 2 ≡ d
-lowest w h d e l = omega arith
-
-differ-digit : (a b : Bool) → differ (one a) (one b) < 2
-differ-digit true true = omega arith
-differ-digit true false = omega arith
-differ-digit false true = omega arith
-differ-digit false false = omega arith
-
-module _ (v w j : ℕ) (a b : Bool) (d : digit v j ≡ one a) (e : digit w j ≡ one b) where
-  digit-and : digit (bitAnd v w) j ≡ min (one a) (one b)
-  digit-and =
-      ap (λ q. q % 2) (and-shr v w j)
-      ∙ lowest _ _ (min (one a) (one b)) (and-step (v / 2 ^ j) (w / 2 ^ j) ∙ ap₂ (λ x y. bitAnd (v / 2 ^ j / 2) (w / 2 ^ j / 2) * 2 + min x y) d e) (omega arith)
-
-  digit-or : digit (bitOr v w) j ≡ max (one a) (one b)
-  digit-or =
-      ap (λ q. q % 2) (or-shr v w j)
-      ∙ lowest _ _ (max (one a) (one b)) (or-step (v / 2 ^ j) (w / 2 ^ j) ∙ ap₂ (λ x y. bitOr (v / 2 ^ j / 2) (w / 2 ^ j / 2) * 2 + max x y) d e) (omega arith)
-
-  digit-xor : digit (bitXor v w) j ≡ differ (one a) (one b)
-  digit-xor =
-      ap (λ q. q % 2) (xor-shr v w j)
-      ∙ lowest _ _ (differ (one a) (one b)) (xor-step (v / 2 ^ j) (w / 2 ^ j) ∙ ap₂ (λ x y. bitXor (v / 2 ^ j / 2) (w / 2 ^ j / 2) * 2 + differ x y) d e) (differ-digit a b)
+module _ (op digits : ℕ → ℕ → ℕ) (shr : (v w j : ℕ) → op v w / 2 ^ j ≡ op (v / 2 ^ j) (w / 2 ^ j))
+    (step : (v w : ℕ) → op v w ≡ op (v / 2) (w / 2) * 2 + digits (v % 2) (w % 2)) where
+  digit-of : (v w j a b : ℕ) → digit v j ≡ a → digit w j ≡ b → digits a b < 2 → digit (op v w) j ≡ digits a b
+  digit-of v w j a b d e l =
+      ap (λ q. q % 2) (shr v w j)
+      ∙ lowest _ (op (v / 2 ^ j / 2) (w / 2 ^ j / 2)) (step (v / 2 ^ j) (w / 2 ^ j) ∙ ap₂ (λ x y. op (v / 2 ^ j / 2) (w / 2 ^ j / 2) * 2 + digits x y) d e)
+    where
+      lowest : (q h : ℕ) → q ≡ h * 2 + digits a b → q % 2 ≡ digits a b
+      lowest q h e = omega arith
 
 -- ---- the word of both rows
 
 counted-digit : (unnamed g t : Bool) (given isTrue j : ℕ) → digit given j ≡ one g → digit isTrue j ≡ one t → j < wordBits
     → digit (countedWord unnamed given isTrue) j ≡ one (cond g t unnamed)
 unfolding countedWord
-counted-digit false true true given isTrue j d e l = digit-and given isTrue j true true d e
-counted-digit false true false given isTrue j d e l = digit-and given isTrue j true false d e
-counted-digit false false t given isTrue j d e l = digit-and given isTrue j false t d e ∙ none t
+counted-digit false g t given isTrue j d e l = digit-of bitAnd min and-shr and-step given isTrue j (one g) (one t) d e (omega arith) ∙ both g t
   where
-    none : (t : Bool) → min 0 (one t) ≡ 0
-    none t = omega arith
+    both : (g t : Bool) → min (one g) (one t) ≡ one (cond g t false)
+    both true true = refl
+    both true false = refl
+    both false true = refl
+    both false false = refl
 counted-digit true g t given isTrue j d e l =
-    digit-or isTrue (bitXor given (2 ^ wordBits - 1)) j t (other g) e (digit-xor given (2 ^ wordBits - 1) j g true d (full-digit wordBits j l) ∙ differs g) ∙ together g t
+    digit-of bitOr max or-shr or-step isTrue (bitXor given (2 ^ wordBits - 1)) j (one t) (differ (one g) 1) e
+    (digit-of bitXor differ xor-shr xor-step given (2 ^ wordBits - 1) j (one g) 1 d (full-digit wordBits j l) (other g)) (omega (arith, other g))
+    ∙ together g t
   where
-    other : Bool → Bool
-    other true = false
-    other false = true
+    other : (g : Bool) → differ (one g) 1 < 2
+    other true = omega arith
+    other false = omega arith
 
-    differs : (g : Bool) → differ (one g) 1 ≡ one (other g)
-    differs true = refl
-    differs false = refl
-
-    together : (g t : Bool) → max (one t) (one (other g)) ≡ one (cond g t true)
+    together : (g t : Bool) → max (one t) (differ (one g) 1) ≡ one (cond g t true)
     together true true = refl
     together true false = refl
     together false true = refl

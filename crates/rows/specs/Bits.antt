@@ -14,6 +14,6 @@ unfoldable pub countedWord : (unnamed : Bool) → (given isTrue : ℕ) → ℕ
 countedWord false given isTrue = bitAnd given isTrue
 countedWord true given isTrue = bitOr isTrue (bitXor given (2 ^ wordBits - 1))
 
--- number i of the variables from one on
+-- number i of the variables from `from` on is set
 unfoldable pub setFrom : (ℕ → Bool) → ℕ → ℕ → Bool
 setFrom isSet from i = isSet (from + i)

@@ -88,7 +88,7 @@ module _ (file : List ℕ) (fine : fileVerdict file ≡ Accepted) (k : ℕ) (sma
   with-room : (rules : List Rule) (needed room : ℕ) → judge rules ≡ Accepted → needed ≤ room → judge (rules ++ roomRule needed room) ≡ Accepted
   with-room rules needed room h l = judge-append rules _ ∙ inTurn-both _ _ h (judge-cons _ _ (le-leb _ _ l) judge-nil)
 
-  lent-enough : (rows : Rows) (entries : List ℕ) → rowsFit (N (P file k)) rows ≡ true → k ≤ length entries
+  pub lent-enough : (rows : Rows) (entries : List ℕ) → rowsFit (N (P file k)) rows ≡ true → k ≤ length entries
       → judge (lentRules file k rows entries) ≡ Accepted
   lent-enough rows entries f l = and-then _ (and-both _ _ f (le-leb _ _ l))
 
