@@ -9,7 +9,7 @@ use native.Mathlib.Nat.{sub-self}
 use native.Mathlib.Numerals.{add-one}
 use lib.ListN.{length}
 use Rattle.rules.specs.Counting.{forEach}
-use Rattle.rules.specs.Counts.{pairsBelow, pairsBefore}
+use Rattle.rules.specs.Counts.{pairsBelow, pairsBefore, numberOfPair}
 use Rattle.rules.specs.Families.{minus}
 use Rattle.rules.specs.Text.{clauseLine}
 use Rattle.rules.proofs.Bools.{below-or}
@@ -18,14 +18,13 @@ use Rattle.rules.proofs.Counts.{pairs-all}
 use Rattle.rules.proofs.Pairs.{PairAt, pairs-next, pair-exists, getD-pairs}
 use Rattle.digits.specs.Over.{Wrote}
 use Rattle.digits.proofs.Overs.{wrote-nothing, wrote-more}
-use Rattle.exclusions.specs.Exclusions.{exclusionText, rowText, exclusionLine, exclusionLines, numberOfPair, pairRoom}
+use Rattle.exclusions.specs.Exclusions.{exclusionText, rowText, exclusionLine, exclusionLines, pairRoom}
 use Rattle.exclusions.proofs.Adding.{forEach-add}
 
 -- ---- a row
 
 -- a pair by its number, and the line of that pair
 pub number-of-pair : (count r i j : ℕ) → PairAt count r i j → numberOfPair count i j ≡ r
-unfolding numberOfPair
 number-of-pair count r i j p = sym (p .is)
 
 pub pair-line : (base count r i j : ℕ) → PairAt count r i j → exclusionLine base count r ≡ exclusionText (base + i) (base + j)
@@ -47,11 +46,7 @@ lines-of-pairs base count from lines line h f =
 
 -- the pairs behind (i, j) with the same first number
 pair-behind : (count from d i j r : ℕ) → i < j → j + r < count → from + d ≡ numberOfPair count i j → PairAt count (from + (d + r)) i (j + r)
-unfolding numberOfPair
-pair-behind count from d i j r h l e = record { rising = omega arith; below = l; is = is (pairsBefore count i) e }
-  where
-    is : (start : ℕ) → from + d ≡ start + (j - suc i) → from + (d + r) ≡ start + (j + r - suc i)
-    is start e = omega arith
+pair-behind count from d i j r h l e = record { rising = omega arith; below = l; is = omega arith }
 
 row-part : (base count from d i j k : ℕ) → i < j → j + k ≤ count → from + d ≡ numberOfPair count i j
     → exclusionLines base count from (d + k) ≡ exclusionLines base count from d ++ rowText (base + i) (base + j) k
@@ -67,33 +62,18 @@ row-part base count from d i j k h l e =
 
 module _ (count i j : ℕ) (h : i < j) (l : j < count) where
   pub next-number : numberOfPair count i j + (count - j) ≡ numberOfPair count (i + 1) (i + 1 + 1)
-  unfolding numberOfPair
-  next-number = rw (add-one (i + 1), add-one i) (is (pairsBefore count i) (pairsBefore count (suc i)) (pairs-next count i (omega arith)))
-    where
-      is : (start next : ℕ) → next ≡ start + (count - suc i) → start + (j - suc i) + (count - j) ≡ next + (suc (suc i) - suc (suc i))
-      is start next e = omega arith
+  next-number = rw (add-one (i + 1), add-one i) (omega (arith, pairs-next count i (omega arith)))
 
   -- the pair behind the row is one of the pairs below count, if there is any left
   pub next-below : numberOfPair count i j + (count - j) < pairsBelow count → i + 1 + 1 < count
-  unfolding numberOfPair
-  next-below b =
-      ⊎-elim (λ s. s)
-      (λ s. absurd
-      (last s (pairsBefore count i) (pairsBefore count (suc i)) (pairsBelow count) (pairs-next count i (omega arith)) (all s) b))
-      (below-or (i + 1 + 1) count)
+  next-below b = ⊎-elim (λ s. s) (λ s. absurd (omega (arith, pairs-next count i (omega arith), all s))) (below-or (i + 1 + 1) count)
     where
       all : count ≤ i + 1 + 1 → pairsBefore count (suc i) ≡ pairsBelow count
       all s =
           let e : suc (suc i) ≡ count = omega arith in
-          let f : suc i < count = omega arith in
-          let none : count - suc (suc i) ≡ 0 = omega arith in
-          sum (pairsBefore count (suc i)) (pairsBefore count (suc (suc i))) none (pairs-next count (suc i) f) ∙ ap (pairsBefore count) e ∙ pairs-all count
-        where
-          sum : (a b : ℕ) → count - suc (suc i) ≡ 0 → b ≡ a + (count - suc (suc i)) → a ≡ b
-          sum a b n e = omega arith
-
-      last : count ≤ i + 1 + 1 → (start next all : ℕ) → next ≡ start + (count - suc i) → next ≡ all → start + (j - suc i) + (count - j) < all → ⊥
-      last s start next all e f b = omega arith
+          let next : pairsBefore count (suc (suc i)) ≡ pairsBefore count (suc i) + (count - suc (suc i)) = pairs-next count (suc i) (omega arith) in
+          let none : pairsBefore count (suc i) ≡ pairsBefore count (suc (suc i)) = omega arith in
+          none ∙ ap (pairsBefore count) e ∙ pairs-all count
 
 -- ---- rows
 

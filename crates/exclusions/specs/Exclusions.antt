@@ -4,7 +4,6 @@ use Prim.Native.Nat.{ℕ, suc, _+_, _-_, _*_}
 use mathlib.Core.List.{List, [], _∷_, _++_}
 use lib.ListN.{getD}
 use Rattle.rules.specs.Counting.{forEach, forPairs}
-use Rattle.rules.specs.Counts.{pairsBefore}
 use Rattle.rules.specs.Families.{minus}
 use Rattle.rules.specs.Text.{space, lf, digit0, literalText, clauseLine}
 
@@ -30,10 +29,6 @@ exclusionLine base count r = clauseLine (getD (forPairs count (λ i j. (minus (b
 -- the lines of so many pairs, from pair `from` on
 unfoldable pub exclusionLines : (base count from lines : ℕ) → List ℕ
 exclusionLines base count from lines = forEach lines (λ r. exclusionLine base count (from + r))
-
--- the number of the pair i < j below count
-unfoldable pub numberOfPair : (count i j : ℕ) → ℕ
-numberOfPair count i j = pairsBefore count i + (j - suc i)
 
 -- room that surely suffices for a literal, a minus, five digits and a space; for a line's end; for a line
 abbrev pub literalRoom : ℕ

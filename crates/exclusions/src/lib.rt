@@ -8,9 +8,9 @@ use crate::rows::put_row;
 ghost use Prim.Native.Nat.{suc, _+_, _*_, _≤_, _<_};
 ghost use lib.ListN.{length};
 ghost use Rattle.rules.specs.Limits.{maxN};
-ghost use Rattle.rules.specs.Counts.{pairsBelow};
+ghost use Rattle.rules.specs.Counts.{pairsBelow, numberOfPair};
 ghost use Rattle.digits.specs.Over.{Wrote};
-ghost use Rattle.exclusions.specs.Exclusions.{exclusionLines, numberOfPair, pairRoom};
+ghost use Rattle.exclusions.specs.Exclusions.{exclusionLines, pairRoom};
 
 // The lines of so many pairs below count, from the pair (first, second) on; answers the place behind them.
 pub fn put_exclusions(

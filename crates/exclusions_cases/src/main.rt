@@ -3,8 +3,7 @@
 ghost use Prim.Native.Nat.{suc, _+_, _≤_, _<_};
 ghost use lib.ListN.{length};
 ghost use Rattle.rules.specs.Limits.{maxN};
-ghost use Rattle.rules.specs.Counts.{pairsBelow};
-ghost use Rattle.exclusions.specs.Exclusions.{numberOfPair};
+ghost use Rattle.rules.specs.Counts.{pairsBelow, numberOfPair};
 
 const MARK: u8 = b'.';
 

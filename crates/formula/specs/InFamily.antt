@@ -7,7 +7,7 @@ use lib.ListN.{length, getD}
 use Rattle.rules.specs.Task.{Task, n, d, off, S, A, action}
 use Rattle.rules.specs.Problem.{Problem}
 use Rattle.rules.specs.Families.{clause}
-use Rattle.rules.specs.Counts.{pairsBelow, pairsBefore, countTable}
+use Rattle.rules.specs.Counts.{pairsBelow, numberOfPair, countTable}
 use Rattle.rules.specs.File.{taskOf}
 use Rattle.rules.specs.Calls.{problemOf}
 use Rattle.rules.proofs.ByNumber.{clausesBefore}
@@ -60,11 +60,11 @@ abbrev pub placeNumber : Task → ℕ → Place → ℕ
 placeNumber T k (Start x) = numberIn T k 0 0 x
 placeNumber T k (Goal i) = numberIn T k 1 0 i
 placeNumber T k (AllValues s x) = numberIn T k 2 s x
-placeNumber T k (TwoValues s x v w) = numberIn T k 3 s (valuePairsBefore T x + (pairsBefore (d T x) v + (w - suc v)))
+placeNumber T k (TwoValues s x v w) = numberIn T k 3 s (valuePairsBefore T x + numberOfPair (d T x) v w)
 placeNumber T k (Precondition s a i) = numberIn T k 4 s (preconditionsBefore T a + i)
 placeNumber T k (Effect s a i) = numberIn T k 5 s (effectsBefore T a + i)
 placeNumber T k (Stays s x v) = numberIn T k 6 s (off T x + v)
-placeNumber T k (TwoActions s a b) = numberIn T k 7 s (pairsBefore (A T) a + (b - suc a))
+placeNumber T k (TwoActions s a b) = numberIn T k 7 s (numberOfPair (A T) a b)
 
 -- clause c stands at this place
 pub record IsAt (P : Problem) (c : ℕ) (place : Place) : Type 0 where

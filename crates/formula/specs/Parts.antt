@@ -15,12 +15,6 @@ pub record Spans (index : List ℕ) (at width rows q : ℕ) : Type 0 where
   pub from : column index at width 0 ≤ q
   pub to : q < column index at width rows
 
--- the column passes q between a row and the next
-pub record Passes (index : List ℕ) (at width rows q row : ℕ) : Type 0 where
-  pub below : row < rows
-  pub begun : column index at width row ≤ q
-  pub ahead : q < column index at width (suc row)
-
 -- q lies in summand x of the m summands w
 pub record InPart (m : ℕ) (w : ℕ → ℕ) (q x : ℕ) : Type 0 where
   pub below : x < m

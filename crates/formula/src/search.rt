@@ -10,8 +10,9 @@ ghost use lib.ListN.{length};
 ghost use Rattle.rules.specs.Counts.{pairsBelow};
 ghost use Rattle.rules.specs.Task.{n, d, S, A as actionCount, action};
 ghost use Rattle.rules.specs.File.{taskOf};
+ghost use Rattle.pairs.specs.Halving.{Passes};
 ghost use Rattle.task.specs.Index.{Indexed, valuePairsBefore, preconditionsBefore, effectsBefore};
-ghost use Rattle.formula.specs.Parts.{column, Spans, Passes, InPart};
+ghost use Rattle.formula.specs.Parts.{column, Spans, InPart};
 
 // Number i of a column.
 fn number_at(index: &[usize], at: usize, width: usize, i: usize) -> usize
@@ -21,19 +22,19 @@ fn number_at(index: &[usize], at: usize, width: usize, i: usize) -> usize
     index[at + width * i]
 }
 
-// The row at which a column passes q: lo and hi bracket it, and each turn halves hi - lo.
+// The row at which a column passes q: lo and hi bracket it, and each turn halves how far they are apart.
 fn row_of(index: &[usize], at: usize, width: usize, rows: usize, q: usize) -> usize
     requires { ⌜ Spans (now index) at width rows q ⌝ }
-    ensures { λ row. ⌜ Passes (now (index .entry)) at width rows q row ⌝ }
+    ensures { λ row. ⌜ Passes (column (now (index .entry)) at width) rows q row ⌝ }
 {
     let mut lo = 0;
     let mut hi = rows;
     while 1 < hi - lo {
         let mid = lo + (hi - lo) / 2;
-        if q < number_at(index, at, width, mid) {
-            hi = mid;
-        } else {
+        if number_at(index, at, width, mid) <= q {
             lo = mid;
+        } else {
+            hi = mid;
         }
     }
     lo

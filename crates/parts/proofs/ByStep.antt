@@ -9,7 +9,7 @@ use mir.Syntax.{w64}
 use mir.Val.{Fits}
 use Rattle.rules.specs.Limits.{maxHorizon, maxActions, maxN}
 use Rattle.rules.specs.Counting.{sumTo}
-use Rattle.rules.specs.Counts.{pairsBelow, pairsBefore}
+use Rattle.rules.specs.Counts.{pairsBelow, pairsBefore, numberOfPair}
 use Rattle.rules.specs.Task.{Task, n, d, A}
 use Rattle.rules.specs.Problem.{Problem, problem}
 use Rattle.rules.specs.Numbering.{valueNumber, actionNumber}
@@ -30,7 +30,7 @@ use Rattle.digits.specs.Over.{Wrote}
 use Rattle.formula.specs.declared.place.Place.the-variants.{TwoValues, TwoActions}
 use Rattle.formula.specs.InFamily.{widthOf, numberIn, placeNumber}
 use Rattle.formula.proofs.Counted.{pairs-fit}
-use Rattle.exclusions.specs.Exclusions.{exclusionText, exclusionLine, exclusionLines, numberOfPair, pairRoom}
+use Rattle.exclusions.specs.Exclusions.{exclusionText, exclusionLine, exclusionLines, pairRoom}
 use Rattle.exclusions.proofs.ByPair.{pair-line}
 use Rattle.parts.specs.Runs.{run, PutPart, PutPairs}
 
@@ -38,14 +38,12 @@ use Rattle.parts.specs.Runs.{run, PutPart, PutPairs}
 
 module _ (count i j : ℕ) (hi : i < j) (hj : j < count) where
   pair-of : PairAt count (numberOfPair count i j) i j
-  unfolding numberOfPair
   pair-of = record { rising = hi; below = hj; is = refl }
 
   pub number-below : numberOfPair count i j < pairsBelow count
   number-below = pair-within count (numberOfPair count i j) i j pair-of
 
   pub number-is : (before r : ℕ) → before ≡ pairsBefore count i → r ≡ before + (j - i - 1) → r ≡ numberOfPair count i j
-  unfolding numberOfPair
   number-is before r e f = omega arith
 
   pub number-fits : (before : ℕ) → count ≤ maxActions → before ≡ pairsBefore count i → Fits w64 (before + (j - i - 1))
@@ -131,7 +129,7 @@ module _ (file : List ℕ) (k s : ℕ) where
     action-number i = omega arith
 
     actions-line : (r i j : ℕ) → PairAt (A T) (q + r) i j → clauseLine (clause Q (c + r)) ≡ exclusionLine base (A T) (q + r)
-    unfolding problemOf numberIn widthOf numberOfPair exclusionText
+    unfolding problemOf numberIn widthOf exclusionText
     actions-line r i j p =
         ap clauseLine (clause8 T k (c + r) s (q + r) i j hs p (omega arith))
         ∙ ap (λ m. clauseLine (minus m ∷ minus (actionNumber P s j) ∷ [])) (sym (action-number i))
@@ -144,7 +142,7 @@ module _ (file : List ℕ) (k s : ℕ) where
       actions-run = forEach-ext lines _ _ (λ r l. let p = pair-exists (A T) (q + r) (omega arith) in actions-line r (p .0) (p .1) (p .2))
 
       actions-up-to : c + lines ≤ C Q
-      unfolding problemOf numberIn widthOf numberOfPair
+      unfolding problemOf numberIn widthOf
       actions-up-to =
           below-end (clausesBefore T k 7) (s * pairsBelow (A T)) q lines (k * pairsBelow (A T)) (C P) some
           (within-rows k (pairsBelow (A T)) s (q + lines - 1) hs (below-width q lines (pairsBelow (A T)) some h)) (omega (arith, starts T k .end))
@@ -180,7 +178,7 @@ module _ (file : List ℕ) (k s : ℕ) where
     value-number i = omega arith
 
     values-line : (r i j : ℕ) → PairAt (d T x) (q′ + r) i j → clauseLine (clause Q (c′ + r)) ≡ exclusionLine base (d T x) (q′ + r)
-    unfolding problemOf numberIn widthOf numberOfPair exclusionText valuePairsBefore
+    unfolding problemOf numberIn widthOf exclusionText valuePairsBefore
     values-line r i j p =
         ap clauseLine (clause4 P (c′ + r) s x (q′ + r) i j hs hx p (omega arith))
         ∙ ap (λ m. clauseLine (minus m ∷ minus (valueNumber P s x j) ∷ [])) (sym (value-number i))
@@ -193,7 +191,7 @@ module _ (file : List ℕ) (k s : ℕ) where
       values-run = forEach-ext lines _ _ (λ r l. let p = pair-exists (d T x) (q′ + r) (omega arith) in values-line r (p .0) (p .1) (p .2))
 
       values-up-to : c′ + lines ≤ C Q
-      unfolding problemOf numberIn widthOf numberOfPair valuePairsBefore
+      unfolding problemOf numberIn widthOf valuePairsBefore
       values-up-to =
           nested (clausesBefore T k 3) (s * sumTo (n T) pairsOf) (sumTo x pairsOf) q′ (suc k * sumTo (n T) pairsOf) (C P)
           (within-steps (suc k) (n T) pairsOf s x (q′ + lines - 1) hs hx (below-width q′ lines (pairsBelow (d T x)) some h))

@@ -5,13 +5,13 @@ use mathlib.Core.Path.{_≡_}
 use mathlib.Core.List.{List}
 use lib.ListN.{length}
 use Rattle.rules.specs.Counting.{forEach}
-use Rattle.rules.specs.Counts.{pairsBelow}
+use Rattle.rules.specs.Counts.{pairsBelow, numberOfPair}
 use Rattle.rules.specs.Problem.{Problem}
 use Rattle.rules.specs.Families.{C, clause}
 use Rattle.rules.specs.Text.{clauseLine}
 use Rattle.rules.specs.Calls.{problemOf}
 use Rattle.digits.specs.Over.{Wrote}
-use Rattle.exclusions.specs.Exclusions.{exclusionLines, numberOfPair}
+use Rattle.exclusions.specs.Exclusions.{exclusionLines}
 
 unfoldable pub run : Problem → (c m : ℕ) → List ℕ
 run P c m = forEach m (λ i. clauseLine (clause P (c + i)))

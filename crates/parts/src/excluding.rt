@@ -17,7 +17,7 @@ ghost use Rattle.rules.specs.File.{taskOf};
 ghost use Rattle.task.specs.Index.{Indexed};
 ghost use Rattle.formula.specs.declared.place.Place.{Place};
 ghost use Rattle.formula.specs.InFamily.{placeNumber};
-ghost use Rattle.exclusions.specs.Exclusions.{numberOfPair, pairRoom};
+ghost use Rattle.exclusions.specs.Exclusions.{pairRoom};
 ghost use Rattle.lines.specs.AtPlace.{PairRoomFor};
 ghost use Rattle.parts.specs.Runs.{PutPart, PutPairs};
 

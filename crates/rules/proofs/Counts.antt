@@ -23,11 +23,13 @@ pairs-doubled m (suc i) h = omega (arith, pairs-doubled m i (omega arith))
 
 -- where the pairs with the first number i start: each first number j before it has the m - suc j numbers above j
 pub pairs-before : (m i : ℕ) → i ≤ m → sumTo i (λ j. m - suc j) ≡ pairsBefore m i
+unfolding pairsBefore
 pairs-before m i h =
     let e : 2 * m - i - 1 ≡ 2 * m - suc i = omega arith in
     rw e (omega (arith, pairs-doubled m i h, mul-sub i (2 * m) (suc i)))
 
 pub pairs-all : (m : ℕ) → pairsBefore m m ≡ pairsBelow m
+unfolding pairsBefore
 pairs-all m = let e : 2 * m - m - 1 ≡ m - 1 = omega arith in rw e
 
 -- ---- lengths

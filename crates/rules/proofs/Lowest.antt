@@ -28,18 +28,12 @@ later-row m r i j r′ i′ j′ p p′ h l =
     let below-i : i ≤ m = omega (arith, p .rising, p .below) in
     let below-i′ : i′ ≤ m = omega (arith, p′ .rising, p′ .below) in
     let row = sumTo-part i′ (λ t. m - suc t) i h in
-    let start : sumTo i (λ t. m - suc t) ≡ pairsBefore m i = pairs-before m i below-i in
-    let start′ : sumTo i′ (λ t. m - suc t) ≡ pairsBefore m i′ = pairs-before m i′ below-i′ in
-    far (pairsBefore m i) (pairsBefore m i′) (p .is) (p′ .is) (p .rising) (p .below) (rw (start, start′) at row)
-  where
-    far : (a a′ : ℕ) → r ≡ a + (j - suc i) → r′ ≡ a′ + (j′ - suc i′) → i < j → j < m → a + (m - suc i) ≤ a′ → ⊥
-    far a a′ e e′ u v row = omega arith
+    omega (arith, row, pairs-before m i below-i, pairs-before m i′ below-i′, p .is, p′ .is, p .rising, p .below)
 
 same-row : (m r i j r′ i′ j′ : ℕ) → PairAt m r i j → PairAt m r′ i′ j′ → i′ ≡ i → r′ < r → j′ < j
-same-row m r i j r′ i′ j′ p p′ e l = near (pairsBefore m i) (pairsBefore m i′) (ap (pairsBefore m) e) (p .is) (p′ .is) (p .rising) (p′ .rising)
-  where
-    near : (a a′ : ℕ) → a′ ≡ a → r ≡ a + (j - suc i) → r′ ≡ a′ + (j′ - suc i′) → i < j → i′ < j′ → j′ < j
-    near a a′ f e′ e″ u v = omega arith
+same-row m r i j r′ i′ j′ p p′ e l =
+    let start : pairsBefore m i′ ≡ pairsBefore m i = ap (pairsBefore m) e in
+    omega (arith, p .is, p′ .is, p .rising, p′ .rising)
 
 -- ---- numbers: none below at, then a chunk of m more
 

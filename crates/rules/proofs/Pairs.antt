@@ -35,12 +35,8 @@ pairs-next m i h = sym (pairs-before m (suc i) h) ∙ ap (λ p. p + above m i) (
 -- the number i whose pairs begin at or before r and end behind it is the first of the pair, and the second follows from it
 pub pair-there : (m r i : ℕ) → i < m → pairsBefore m i ≤ r → r < pairsBefore m (suc i) → PairAt m r i (suc i + (r - pairsBefore m i))
 pair-there m r i h from to =
-    let q = second (pairsBefore m i) from (rw (pairs-next m i h) at to) in
-    record { rising = q .0; below = q .1; is = q .2 }
-  where
-    second : (start : ℕ) → start ≤ r → r < start + above m i
-        → (i < suc i + (r - start)) × (suc i + (r - start) < m) × (r ≡ start + (suc i + (r - start) - suc i))
-    second start from to = (omega arith, omega arith, omega arith)
+    let row = pairs-next m i h in
+    record { rising = omega arith; below = omega arith; is = omega arith }
 
 pub pair-exists : (m r : ℕ) → r < pairsBelow m → (i : ℕ) × (j : ℕ) × PairAt m r i j
 pair-exists m r h =
@@ -66,10 +62,8 @@ same-pair m r i j i′ j′ p p′ =
     let q′ = is-above m i′ j′ (p′ .rising) (p′ .below) in
     let e : i ≡ i′ =
     same-part (above m) i i′ (j - suc i) (j′ - suc i′) (q .place-below) (q′ .place-below) (sym (is-there m r i j p) ∙ is-there m r i′ j′ p′) in
-    (e, second (pairsBefore m i) (pairsBefore m i′) e (ap (pairsBefore m) e) (p .rising) (p′ .rising) (sym (p .is) ∙ p′ .is))
-  where
-    second : (start start′ : ℕ) → i ≡ i′ → start ≡ start′ → i < j → i′ < j′ → start + (j - suc i) ≡ start′ + (j′ - suc i′) → j ≡ j′
-    second start start′ e f h h′ g = omega arith
+    let start : pairsBefore m i ≡ pairsBefore m i′ = ap (pairsBefore m) e in
+    (e, omega (arith, p .rising, p .is, p′ .rising, p′ .is))
 
 module _ {X : Type 0} where
   -- what was made for a pair stands at the pair's number

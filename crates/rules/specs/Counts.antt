@@ -12,8 +12,12 @@ abbrev pub pairsBelow : ℕ → ℕ
 pairsBelow m = m * (m - 1) / 2
 
 -- how many of them have a first number below i
-abbrev pub pairsBefore : ℕ → ℕ → ℕ
+unfoldable pub pairsBefore : ℕ → ℕ → ℕ
 pairsBefore m i = i * (2 * m - i - 1) / 2
+
+-- the number of the pair i < j: it stands behind the pairs with a first number below i, and behind those of i with a second number below j
+abbrev pub numberOfPair : ℕ → ℕ → ℕ → ℕ
+numberOfPair m i j = pairsBefore m i + (j - suc i)
 
 abbrev pub sum : List ℕ → ℕ
 sum cs = sumTo (length cs) (λ i. getD cs i 0)
@@ -34,8 +38,8 @@ countTable T k =
 unfoldable pub clausesBefore : Task → ℕ → ℕ → ℕ
 clausesBefore T k f = sumTo f (λ i. getD (countTable T k) i 0)
 
--- i and j are the pair with the number r: it stands behind the pairs with a first number below i, and behind those of i with a second number below j
+-- i and j are the pair with the number r
 pub record PairAt (m r i j : ℕ) : Type 0 where
   pub rising : i < j
   pub below : j < m
-  pub is : r ≡ pairsBefore m i + (j - suc i)
+  pub is : r ≡ numberOfPair m i j

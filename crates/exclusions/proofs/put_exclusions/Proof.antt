@@ -1,7 +1,7 @@
 -- `exclusions::put_exclusions` meets its contract. The loop's invariant: all but the last `left` lines are written, and (i, j) is the next pair; the measure is left.
 -- Assumes nothing.
 use Rattle.exclusions.proofs.ByPair.{PairsPut, pairs-start, row-space, pairs-more, pairs-end, pairs-within}
-use Rattle.exclusions.specs.Exclusions.{numberOfPair}
+use Rattle.rules.specs.Counts.{numberOfPair}
 use borrow.Author.Needs.{needs}
 use Rattle.exclusions.proofs.put_exclusions.Statement.{statement}
 use Rattle.exclusions.proofs.put_exclusions.Tie as tie

@@ -1,7 +1,7 @@
 -- `pairs::pairs_before` meets its contract: under the bound on m the product fits.
 -- Assumes nothing.
 use borrow.Author.Needs.{needs}
-use Rattle.pairs.proofs.Bracket.{doubled-fits}
+use Rattle.pairs.proofs.Pair.{counted, doubled-fits}
 use Rattle.pairs.proofs.pairs_before.Statement.{statement}
 use Rattle.pairs.proofs.pairs_before.Tie as tie
 
@@ -13,4 +13,4 @@ pairs-before-spec =
     (λ c. search needs)
     (λ c. search needs)
     (λ c. search (needs, doubled-fits))
-    (λ c. search needs))
+    (λ c. search (needs, counted)))

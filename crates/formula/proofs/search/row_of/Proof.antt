@@ -1,16 +1,19 @@
--- `search::row_of` meets its contract. The loop's invariant: lo and hi bracket the row; the measure is how far they are apart.
+-- `search::row_of` meets its contract. The loop's invariant: lo and hi bracket the row; the measure is how often their distance can be halved.
 -- Assumes nothing.
 use Prim.Native.Nat.{_-_}
 use borrow.Author.Needs.{needs}
-use Rattle.formula.proofs.Finding.{Bracket, bracket-start, middle-room, bracket-down, bracket-up, bracket-end}
+use Rattle.pairs.specs.Halving.{halvings}
+use Rattle.pairs.proofs.Halving.{Bracket, bracket-up, bracket-down, bracket-end, half-sooner}
+use Rattle.formula.specs.Parts.{column}
+use Rattle.formula.proofs.Finding.{row-start, middle-room}
 use Rattle.formula.proofs.search.row_of.Statement.{statement}
 use Rattle.formula.proofs.search.row_of.Tie as tie
 
 abbrev Inv-loop : tie.InvT-loop
-Inv-loop index at width rows q lo₀ hi₀ lo hi = Bracket index at width rows q lo hi
+Inv-loop index at width rows q lo₀ hi₀ lo hi = Bracket (column index at width) rows q lo hi
 
 abbrev μ-loop : tie.MeasureT-loop
-μ-loop index at width rows q lo₀ hi₀ lo hi = hi - lo
+μ-loop index at width rows q lo₀ hi₀ lo hi = halvings (hi - lo)
 
 pub row-of-spec : {M : Type 1} → statement M
 row-of-spec =
@@ -18,13 +21,13 @@ row-of-spec =
     (tie.spec
     Inv-loop
     μ-loop
-    (λ c. search (needs, bracket-start))
+    (λ c. search (needs, row-start))
     (λ c. search needs)
     (λ c. search needs)
     (λ c. search needs)
     (λ c κs. search (needs, middle-room))
-    (λ c. search needs)
-    (λ c. search (needs, bracket-down))
-    (λ c. search needs)
+    (λ c. half-sooner (search needs) (search needs))
     (λ c. search (needs, bracket-up))
+    (λ c. half-sooner (search needs) (search needs))
+    (λ c. search (needs, bracket-down))
     (λ c. search (needs, bracket-end)))
