@@ -19,27 +19,6 @@ use Rattle.rows.specs.Bits.{setFrom}
 use Rattle.rows.specs.Stretch.{countSet}
 use Rattle.checker.specs.Order.{FirstPair}
 
--- ---- pairs below m
-
-pub pairs-none : (m : ℕ) → m ≡ 0 → 0 ≡ pairsBelow m
-pairs-none m e = rw e refl
-
-pub product-fits : (m : ℕ) → m ≤ maxActions → Fits w64 (m * (m - 1))
-product-fits m h = let l : m - 1 ≤ maxActions = omega arith in record { fits = omega (arith, mul-le-mul h l) }
-
-module _ (m i : ℕ) (l : i < m) (h : m ≤ maxActions) where
-  twice : i * (2 * m - i - 1) ≤ maxActions * (2 * maxActions)
-  twice = let r : 2 * m - i - 1 ≤ 2 * maxActions = omega arith in let q : i ≤ maxActions = omega arith in mul-le-mul q r
-
-  pub before-fits : Fits w64 (i * (2 * m - i - 1))
-  before-fits = record { fits = omega (arith, twice) }
-
-  pub number-fits : (t : ℕ) → t < m - i - 1 → Fits w64 (i * (2 * m - i - 1) / 2 + (i + 1 + t - i - 1))
-  number-fits t k = record { fits = omega (arith, twice) }
-
-pair-at : (m i j : ℕ) → i < j → j < m → PairAt m (i * (2 * m - i - 1) / 2 + (j - i - 1)) i j
-pair-at m i j h l = record { rising = h; below = l; is = omega arith }
-
 -- ---- how many are set
 
 module _ (isSet : ℕ → Bool) (from : ℕ) where
@@ -122,7 +101,5 @@ module _ (isSet : ℕ → Bool) (from m : ℕ) where
       set-second : b isSet from j ≡ true
       set-second = sym (behind j (omega arith)) ∙ ap rest (omega arith) ∙ first-at (m - i - 1) rest (omega arith)
 
-      pub two-set : FirstPair m (b isSet from) (i * (2 * m - i - 1) / 2 + (j - i - 1))
-      two-set =
-          let at = pair-at m i j (omega arith) (omega arith) in
-          record { lowest = λ q reads. sym (first-pair m (b isSet from) q reads _ i j at set-first set-second before-first between) }
+      pub two-set : (r : ℕ) → PairAt m r i j → FirstPair m (b isSet from) r
+      two-set r at = record { lowest = λ q reads. sym (first-pair m (b isSet from) q reads r i j at set-first set-second before-first between) }

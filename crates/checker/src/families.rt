@@ -6,7 +6,7 @@ use crate::bits::first_action;
 use crate::bits::first_value;
 use crate::bits::pair_holds;
 use crate::bits::value_holds;
-use crate::pairs::first_pair;
+use crate::first_two::first_pair;
 use rows::first_set;
 use task::asked::effect;
 use task::asked::effect_count;

@@ -2,7 +2,7 @@
 mod bits;
 pub mod end;
 mod families;
-mod pairs;
+mod first_two;
 mod schedule;
 mod search;
 mod sizes;

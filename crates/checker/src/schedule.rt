@@ -1,7 +1,7 @@
 // The schedule that a model states.
 use crate::bits::UNNAMED_IN_POSITIVE;
 use crate::bits::first_action;
-use crate::pairs::first_of_some;
+use crate::first_two::first_of_some;
 use rows::count_set;
 use task::index::actions;
 ghost use mathlib.Core.Path.{_≡_};

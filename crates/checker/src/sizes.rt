@@ -1,5 +1,5 @@
 // How many steps, items and clauses a family has.
-use crate::pairs::pairs_below;
+use pairs::pairs_below;
 use task::asked::effect_count;
 use task::asked::goals;
 use task::asked::precondition_count;

@@ -21,7 +21,6 @@ use Rattle.rules.proofs.ByNumber.{clausesBefore, clause1, clause2, clause3, cla
 use Rattle.rules.proofs.Valid.{WellFormed}
 use Rattle.rules.proofs.Files.{accepted-well-formed}
 use Rattle.task.specs.Index.{Indexed, valuePairsBefore, preconditionsBefore, effectsBefore}
-use Rattle.pairs.specs.Bound.{mostNumbers}
 use Rattle.formula.specs.declared.place.Place.{Place}
 use Rattle.formula.specs.declared.place.Place.the-variants.{Start, Goal, AllValues, TwoValues, Precondition, Effect, Stays, TwoActions}
 use Rattle.formula.specs.Parts.{InPart}
@@ -229,8 +228,6 @@ module _ (file : List ℕ) (k s q : ℕ) where
     pub action-few : (w : ℕ → ℕ) (a : ℕ) → InPart (A Tk) w q a → a ≤ maxActions
     action-few w a i = omega (arith, i .below, few .actions-few)
 
-    pub domain-few : (w : ℕ → ℕ) (x m : ℕ) → InPart (n Tk) w q x → m ≡ d Tk x → m ≤ mostNumbers
+    pub domain-few : (w : ℕ → ℕ) (x m : ℕ) → InPart (n Tk) w q x → m ≡ d Tk x → m ≤ maxActions
     domain-few w x m i e = omega (arith, few .domain-small x (i .below))
 
-    pub numbers-few : (m : ℕ) → m ≡ A Tk → m ≤ mostNumbers
-    numbers-few m e = omega (arith, few .actions-few)

@@ -25,14 +25,6 @@ use Rattle.rules.proofs.Files.{accepted-well-formed}
 use Rattle.task.specs.Index.{Indexed, valuePairsBefore, preconditionsBefore, effectsBefore}
 use Rattle.formula.specs.InFamily.{familyCount, stepsOf, widthOf, countOf}
 
--- ---- pairs
-
-pub no-pairs : (m : ℕ) → m ≡ 0 → 0 ≡ pairsBelow m
-no-pairs m e = rw e
-
-pub pairs-fit : (m : ℕ) → m ≤ maxActions → Fits w64 (m * (m - 1))
-pairs-fit m h = let l : m - 1 ≤ maxActions = omega arith in record { fits = omega (arith, mul-le-mul h l) }
-
 -- ---- steps
 
 pub steps-one : (k f : ℕ) → f < 2 → 1 ≡ stepsOf k f

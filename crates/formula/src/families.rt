@@ -1,4 +1,5 @@
 // The families by their number f, from 0: at how many steps each has clauses, how many at a step and in all; C.
+use pairs::pairs_below;
 use task::asked::goals;
 use task::asked::variables;
 use task::index::actions;
@@ -8,8 +9,7 @@ use task::index::value_pairs_before;
 use task::index::values;
 ghost use mathlib.Core.Path.{_≡_};
 ghost use Prim.Native.Nat.{_≤_, _<_};
-ghost use Rattle.rules.specs.Limits.{maxActions, maxHorizon};
-ghost use Rattle.rules.specs.Counts.{pairsBelow};
+ghost use Rattle.rules.specs.Limits.{maxHorizon};
 ghost use Rattle.rules.specs.Families.{C};
 ghost use Rattle.rules.specs.File.{taskOf};
 ghost use Rattle.rules.specs.Calls.{problemOf};
@@ -17,16 +17,6 @@ ghost use Rattle.task.specs.Index.{Indexed};
 ghost use Rattle.formula.specs.InFamily.{familyCount, stepsOf, widthOf, countOf};
 
 pub const FAMILIES: usize = 8;
-
-pub fn pairs_below(m: usize) -> usize
-    requires { ⌜ m ≤ maxActions ⌝ }
-    ensures { λ r. ⌜ r ≡ pairsBelow m ⌝ }
-{
-    if m == 0 {
-        return 0;
-    }
-    m * (m - 1) / 2
-}
 
 // At how many steps family f has clauses.
 fn steps(horizon: usize, f: usize) -> usize

@@ -11,7 +11,7 @@ use mir.Val.{Fits}
 use Rattle.rules.specs.Counts.{pairsBelow, pairsBefore}
 use Rattle.rules.proofs.Counts.{pairs-all}
 use Rattle.rules.proofs.Pairs.{PairAt, pair-there, pair-within}
-use Rattle.pairs.specs.Bound.{mostNumbers}
+use Rattle.rules.specs.Limits.{maxActions}
 use Rattle.pairs.specs.Halving.{Passes}
 use Rattle.pairs.proofs.Halving.{Bracket, bracket-start, bracket-end}
 
@@ -20,19 +20,19 @@ use Rattle.pairs.proofs.Halving.{Bracket, bracket-start, bracket-end}
 pub no-pairs : (m : ℕ) → m ≡ 0 → 0 ≡ pairsBelow m
 no-pairs m e = rw e refl
 
-pub product-fits : (m : ℕ) → m ≤ mostNumbers → Fits w64 (m * (m - 1))
+pub product-fits : (m : ℕ) → m ≤ maxActions → Fits w64 (m * (m - 1))
 product-fits m h =
-    let l : m - 1 ≤ mostNumbers = omega arith in
+    let l : m - 1 ≤ maxActions = omega arith in
     record { fits = lt-of-le-of-lt (mul-le-mul h l) (lit< tt) }
 
 pub counted : (m i : ℕ) → i * (2 * m - i - 1) / 2 ≡ pairsBefore m i
 unfolding pairsBefore
 counted m i = refl
 
-pub doubled-fits : (m i : ℕ) → i ≤ m → m ≤ mostNumbers → Fits w64 (i * (2 * m - i - 1))
+pub doubled-fits : (m i : ℕ) → i ≤ m → m ≤ maxActions → Fits w64 (i * (2 * m - i - 1))
 doubled-fits m i h l =
-    let others : 2 * m - i - 1 ≤ 2 * mostNumbers = omega arith in
-    let here : i ≤ mostNumbers = omega arith in
+    let others : 2 * m - i - 1 ≤ 2 * maxActions = omega arith in
+    let here : i ≤ maxActions = omega arith in
     record { fits = lt-of-le-of-lt (mul-le-mul here others) (lit< tt) }
 
 -- ---- from a pair to its number
@@ -41,7 +41,7 @@ module _ (m i j before : ℕ) (h : i < j) (l : j < m) (e : before ≡ pairsBefor
   pub is-number : PairAt m (before + (j - i - 1)) i j
   is-number = record { rising = h; below = l; is = omega arith }
 
-  pub number-fits : m ≤ mostNumbers → Fits w64 (before + (j - i - 1))
+  pub number-fits : m ≤ maxActions → Fits w64 (before + (j - i - 1))
   number-fits b = record { fits = omega (arith, pair-within m _ i j is-number, product-fits m b .fits) }
 
 -- ---- and back
@@ -62,5 +62,5 @@ module _ (m r : ℕ) where
           let p : Passes (pairsBefore m) m r lo = bracket-end (pairsBefore m) m r lo hi b t in
           rw (add-one lo, e) (pair-there m r lo (p .below) (p .begun) (p .ahead))
 
-      pub second-fits : m ≤ mostNumbers → Fits w64 (lo + 1 + (r - start))
+      pub second-fits : m ≤ maxActions → Fits w64 (lo + 1 + (r - start))
       second-fits l = record { fits = lt-of-lt-of-le (pair-found .below) (le-trans l (lit≤ tt)) }

@@ -1,3 +1,2 @@
 -- What the contracts of this crate cite beside the rules.
-pub mod Bound
 pub mod Halving

@@ -2,8 +2,8 @@
 // before it.
 ghost use mathlib.Core.Path.{_≡_};
 ghost use Prim.Native.Nat.{_≤_, _<_};
+ghost use Rattle.rules.specs.Limits.{maxActions};
 ghost use Rattle.rules.specs.Counts.{pairsBelow, pairsBefore, PairAt};
-ghost use Rattle.pairs.specs.Bound.{mostNumbers};
 
 // Two numbers, the first below the second.
 pub struct RisingPair {
@@ -13,7 +13,7 @@ pub struct RisingPair {
 
 // How many pairs of numbers below m there are.
 pub fn pairs_below(m: usize) -> usize
-    requires { ⌜ m ≤ mostNumbers ⌝ }
+    requires { ⌜ m ≤ maxActions ⌝ }
     ensures { λ r. ⌜ r ≡ pairsBelow m ⌝ }
 {
     if m == 0 {
@@ -24,7 +24,7 @@ pub fn pairs_below(m: usize) -> usize
 
 // How many of them have a first number below i.
 pub fn pairs_before(m: usize, i: usize) -> usize
-    requires { ⌜ (1 ≤ m) × (m ≤ mostNumbers) × (i ≤ m) ⌝ }
+    requires { ⌜ (1 ≤ m) × (m ≤ maxActions) × (i ≤ m) ⌝ }
     ensures { λ p. ⌜ p ≡ pairsBefore m i ⌝ }
 {
     i * (2 * m - i - 1) / 2
@@ -32,7 +32,7 @@ pub fn pairs_before(m: usize, i: usize) -> usize
 
 // The number of the pair i < j.
 pub fn number_of_pair(m: usize, i: usize, j: usize) -> usize
-    requires { ⌜ (m ≤ mostNumbers) × (i < j) × (j < m) ⌝ }
+    requires { ⌜ (m ≤ maxActions) × (i < j) × (j < m) ⌝ }
     ensures { λ r. ⌜ PairAt m r i j ⌝ }
 {
     pairs_before(m, i) + (j - i - 1)
@@ -41,7 +41,7 @@ pub fn number_of_pair(m: usize, i: usize, j: usize) -> usize
 // The pair with the number r. Its first number is the last whose pairs begin at or before r: lo and hi bracket it, and each turn halves how far they are
 // apart.
 pub fn pair_of(m: usize, r: usize) -> RisingPair
-    requires { ⌜ (m ≤ mostNumbers) × (r < pairsBelow m) ⌝ }
+    requires { ⌜ (m ≤ maxActions) × (r < pairsBelow m) ⌝ }
     ensures { λ p. ⌜ PairAt m r (p .first) (p .second) ⌝ }
 {
     let mut lo = 0;

@@ -29,7 +29,6 @@ use Rattle.task.specs.Index.{Indexed, valuePairsBefore}
 use Rattle.digits.specs.Over.{Wrote}
 use Rattle.formula.specs.declared.place.Place.the-variants.{TwoValues, TwoActions}
 use Rattle.formula.specs.InFamily.{widthOf, numberIn, placeNumber}
-use Rattle.formula.proofs.Counted.{pairs-fit}
 use Rattle.exclusions.specs.Exclusions.{exclusionText, exclusionLine, exclusionLines, pairRoom}
 use Rattle.exclusions.proofs.ByPair.{pair-line}
 use Rattle.parts.specs.Runs.{run, PutPart, PutPairs}
@@ -43,18 +42,8 @@ module _ (count i j : ℕ) (hi : i < j) (hj : j < count) where
   pub number-below : numberOfPair count i j < pairsBelow count
   number-below = pair-within count (numberOfPair count i j) i j pair-of
 
-  pub number-is : (before r : ℕ) → before ≡ pairsBefore count i → r ≡ before + (j - i - 1) → r ≡ numberOfPair count i j
-  number-is before r e f = omega arith
-
-  pub number-fits : (before : ℕ) → count ≤ maxActions → before ≡ pairsBefore count i → Fits w64 (before + (j - i - 1))
-  number-fits before h e =
-      record { fits = below (numberOfPair count i j) (count * (count - 1)) (number-is before (before + (j - i - 1)) e refl) number-below (pairs-fit count h .fits) }
-    where
-      below : (number product : ℕ) → before + (j - i - 1) ≡ number → number < product / 2 → product < 2 ^ 64 → before + (j - i - 1) < 2 ^ 64
-      below number product f l g = omega arith
-
 -- as many as are left and as there is room for
-module _ (count i j all number left at room lines : ℕ) (hi : i < j) (hj : j < count) (ea : all ≡ pairsBelow count) (en : number ≡ numberOfPair count i j) where
+module _ (count i j all number left at room lines : ℕ) (hi : i < j) (hj : j < count) (ea : all ≡ pairsBelow count) (en : PairAt count number i j) where
   pub pairs-left : number ≤ all
   pairs-left = omega (arith, number-below count i j hi hj)
 

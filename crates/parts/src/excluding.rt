@@ -2,10 +2,10 @@
 use crate::single::PAIR_ROOM;
 use crate::single::Part;
 use exclusions::put_exclusions;
-use formula::families::pairs_below;
 use formula::numbers::action_at;
 use formula::numbers::value_at;
-use pairs::pairs_before;
+use pairs::number_of_pair;
+use pairs::pairs_below;
 use task::asked::size;
 use task::index::actions;
 use task::numbering::number_of;
@@ -30,14 +30,6 @@ fn smaller(a: usize, b: usize) -> usize
     b
 }
 
-// The number of the pair i < j below count.
-fn pair_number(count: usize, i: usize, j: usize) -> usize
-    requires { ⌜ (i < j) × (j < count) × (count ≤ maxActions) ⌝ }
-    ensures { λ r. ⌜ r ≡ numberOfPair count i j ⌝ }
-{
-    pairs_before(count, i) + (j - i - 1)
-}
-
 // The lines of the pairs below count from (first, second) on, their numbers counted from base on.
 fn put_pairs(
     out: &mut [u8],
@@ -50,7 +42,7 @@ fn put_pairs(
     requires { ⌜ (first < second) × (second < count) × (count ≤ maxActions) × (base + count ≤ suc maxN) × (at + pairRoom ≤ length (now out)) ⌝ }
     ensures { λ r. ⌜ PutPairs base count first second (now (out .entry)) at (r .lines) (now (out .exit)) (r .end) ⌝ }
 {
-    let left = pairs_below(count) - pair_number(count, first, second);
+    let left = pairs_below(count) - number_of_pair(count, first, second);
     let lines = smaller(left, (out.len() - at) / PAIR_ROOM);
     let end = put_exclusions(out, at, base, count, first, second, lines);
     Part { lines, end }

@@ -1,7 +1,8 @@
 -- `placing::two_actions` meets its contract.
 -- Assumes nothing.
 use borrow.Author.Needs.{needs}
-use Rattle.formula.proofs.ByPlace.{numbers-few, actions-inside, two-actions-placed}
+use Rattle.formula.proofs.Counted.{actions-few}
+use Rattle.formula.proofs.ByPlace.{actions-inside, two-actions-placed}
 use Rattle.formula.proofs.placing.two_actions.Statement.{statement}
 use Rattle.formula.proofs.placing.two_actions.Tie as tie
 
@@ -10,5 +11,5 @@ two-actions-spec =
     tie.close
     (tie.spec
     (λ c κs. search needs)
-    (λ c κs. search (needs, numbers-few, actions-inside))
+    (λ c κs. search (needs, actions-few, actions-inside))
     (λ c. search (needs, two-actions-placed)))

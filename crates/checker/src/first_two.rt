@@ -1,29 +1,19 @@
 // The first variable of a stretch that counts as true, the first two, and the number of their pair.
 use crate::bits::UNNAMED_IN_NEGATIVE;
+use pairs::number_of_pair;
+use pairs::pairs_below;
 use rows::count_set;
 use rows::first_set;
 ghost use mathlib.Core.Path.{_≡_};
 ghost use Prim.Native.Nat.{_+_, _<_, _≤_};
 ghost use Rattle.rules.specs.Counting.{first};
 ghost use Rattle.rules.specs.Limits.{maxActions};
-ghost use Rattle.rules.specs.Counts.{pairsBelow};
 ghost use mathlib.Core.Bool.{true};
 ghost use Rattle.rows.specs.Bits.{countsTrue, setFrom};
 ghost use Rattle.rows.specs.Lent.{lent};
 ghost use Rattle.rows.specs.Bound.{mostVariables};
 ghost use Rattle.rows.specs.Stretch.{countSet};
 ghost use Rattle.checker.specs.Order.{FirstPair};
-
-// How many pairs there are below m.
-pub fn pairs_below(m: usize) -> usize
-    requires { ⌜ m ≤ maxActions ⌝ }
-    ensures { λ r. ⌜ r ≡ pairsBelow m ⌝ }
-{
-    if m == 0 {
-        return 0;
-    }
-    m * (m - 1) / 2
-}
 
 // The first of a stretch in which some variable counts as true.
 pub fn first_of_some(given: &[u64], truth: &[u64], unnamed: bool, from: usize, m: usize) -> usize
@@ -44,5 +34,5 @@ pub fn first_pair(given: &[u64], truth: &[u64], from: usize, m: usize) -> usize
     let i = first_of_some(given, truth, UNNAMED_IN_NEGATIVE, from, m);
     let t = first_of_some(given, truth, UNNAMED_IN_NEGATIVE, from + i + 1, m - i - 1);
     let j = i + 1 + t;
-    i * (2 * m - i - 1) / 2 + (j - i - 1)
+    number_of_pair(m, i, j)
 }

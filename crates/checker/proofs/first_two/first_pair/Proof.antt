@@ -1,9 +1,9 @@
 -- `first_pair` meets its contract.
 -- Assumes nothing.
-use Rattle.checker.proofs.FirstTwo.{few-set, second-counted, before-fits, number-fits, two-set}
+use Rattle.checker.proofs.FirstTwo.{few-set, second-counted, two-set}
 use borrow.Author.Needs.{needs}
-use Rattle.checker.proofs.pairs.first_pair.Statement.{statement}
-use Rattle.checker.proofs.pairs.first_pair.Tie as tie
+use Rattle.checker.proofs.first_two.first_pair.Statement.{statement}
+use Rattle.checker.proofs.first_two.first_pair.Tie as tie
 
 pub first-pair-spec : {M : Type 1} → statement M
 first-pair-spec =
@@ -20,11 +20,5 @@ first-pair-spec =
     (λ c κs. search (needs, second-counted))
     (λ c. search needs)
     (λ c. search needs)
-    (λ c. search needs)
-    (λ c. search needs)
-    (λ c. search needs)
-    (λ c. search (needs, before-fits))
-    (λ c. search needs)
-    (λ c. search needs)
-    (λ c. search (needs, number-fits))
+    (λ c κs. search needs)
     (λ c. search (needs, two-set)))
