@@ -3,13 +3,9 @@
 use mathlib.Core.Path.{_≡_, refl, sym, ap, _∙_}
 use mathlib.Core.Logic.{⊎-elim}
 use mathlib.Core.Bool.{Bool, true, false, cond}
-use Prim.Native.Nat.{ℕ, zero, suc, _+_, _-_, _*_, _/_, _≤_, _<_}
+use Prim.Native.Nat.{ℕ, zero, suc, _+_, _-_, _≤_, _<_}
 use native.Mathlib.Omega.{arith}
-use native.Mathlib.Nat.{mul-le-mul}
-use mir.Syntax.{w64}
-use mir.Val.{Fits}
 use Rattle.rules.specs.Counting.{sumTo, first}
-use Rattle.rules.specs.Limits.{maxActions}
 use Rattle.rules.specs.Counts.{pairsBelow}
 use Rattle.rules.proofs.Bools.{either, clash, below-or}
 use Rattle.rules.proofs.Counting.{first-before, first-at, first-none, sumTo-part}

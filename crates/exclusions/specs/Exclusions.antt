@@ -1,6 +1,6 @@
 -- The lines of clauses "not i, not j": of two numbers, of a row of numbers, and of the pairs below a count from one of them on.
 -- Assumes nothing.
-use Prim.Native.Nat.{ℕ, suc, _+_, _-_, _*_}
+use Prim.Native.Nat.{ℕ, _+_, _*_}
 use mathlib.Core.List.{List, [], _∷_, _++_}
 use lib.ListN.{getD}
 use Rattle.rules.specs.Counting.{forEach, forPairs}

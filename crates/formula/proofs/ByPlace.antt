@@ -230,4 +230,3 @@ module _ (file : List ℕ) (k s q : ℕ) where
 
     pub domain-few : (w : ℕ → ℕ) (x m : ℕ) → InPart (n Tk) w q x → m ≡ d Tk x → m ≤ maxActions
     domain-few w x m i e = omega (arith, few .domain-small x (i .below))
-

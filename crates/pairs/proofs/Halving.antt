@@ -8,9 +8,8 @@ use native.Mathlib.Omega.{arith}
 use native.Mathlib.Nat.{pow-suc}
 use lib.Dec.{leb}
 use lib.Pow.{pow-pos}
-use borrow.Author.Tests.{leb-true, leb-false, le-leb}
+use borrow.Author.Tests.{leb-true, le-leb}
 use Rattle.rules.specs.Counting.{first}
-use Rattle.rules.specs.Limits.{maxActions, maxDomain, maxVariables}
 use Rattle.rules.proofs.Bools.{clash, below-or}
 use Rattle.rules.proofs.Counting.{first-le, first-before, first-at}
 use Rattle.pairs.specs.Halving.{Passes, halvings}

@@ -1,7 +1,7 @@
 -- The pair behind a number, found by halving over the closed form of how many pairs come before.
 -- Assumes nothing.
 use mathlib.Core.Path.{_≡_, refl}
-use Prim.Native.Nat.{ℕ, zero, suc, _+_, _-_, _*_, _/_, _≤_, _<_}
+use Prim.Native.Nat.{ℕ, _+_, _-_, _*_, _/_, _≤_, _<_}
 use native.Mathlib.Omega.{arith}
 use native.Mathlib.Nat.{mul-le-mul, zero-mul, le-trans, lt-of-lt-of-le, lt-of-le-of-lt}
 use native.Mathlib.Numerals.{add-one}

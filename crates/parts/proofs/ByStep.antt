@@ -2,14 +2,12 @@
 -- Assumes nothing.
 use mathlib.Core.Path.{_≡_, refl, sym, ap, _∙_}
 use mathlib.Core.List.{List, [], _∷_}
-use Prim.Native.Nat.{ℕ, suc, _+_, _-_, _*_, _/_, _^_, _≤_, _<_, min}
+use Prim.Native.Nat.{ℕ, suc, _+_, _-_, _*_, _/_, _≤_, _<_, min}
 use native.Mathlib.Omega.{arith}
 use lib.ListN.{length}
-use mir.Syntax.{w64}
-use mir.Val.{Fits}
 use Rattle.rules.specs.Limits.{maxHorizon, maxActions, maxN}
 use Rattle.rules.specs.Counting.{sumTo}
-use Rattle.rules.specs.Counts.{pairsBelow, pairsBefore, numberOfPair}
+use Rattle.rules.specs.Counts.{pairsBelow, numberOfPair}
 use Rattle.rules.specs.Task.{Task, n, d, A}
 use Rattle.rules.specs.Problem.{Problem, problem}
 use Rattle.rules.specs.Numbering.{valueNumber, actionNumber}

@@ -5,7 +5,7 @@ use mathlib.Core.Logic.{_⊎_, inl, inr, ⊎-elim}
 use mathlib.Core.Bool.{Bool, true, false, _&&_}
 use Prim.Native.Nat.{ℕ, suc, _+_, _-_, _≤_, _<_}
 use native.Mathlib.Omega.{arith}
-use Rattle.rules.specs.Counting.{sumTo, first}
+use Rattle.rules.specs.Counting.{first}
 use Rattle.rules.specs.Counts.{pairsBefore, pairsBelow}
 use Rattle.rules.proofs.Bools.{and-both, below-or}
 use Rattle.rules.proofs.Counting.{first-before, first-at, first-none, first-is, sumTo-part}
