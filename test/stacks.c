@@ -318,14 +318,16 @@ static void pair_case(struct pair pair, const char *what, int ok) {
     expect(name, ok);
 }
 
-/* what a clause takes, which is the pair's, beyond what one without a pair takes, and beyond the counts, which need the same index */
+/* what the clause of a pair takes, held against one without a pair, and against the counts, which need the same index */
 static struct taken taken_by_pair(struct pair pair) {
     size_t before = ask_pair(pair);
     struct taken taken = taken_by(call_literals);
     pair_case(pair, "its literals", is_pair(pair, before));
+    struct taken by_line = taken_by(call_clause_line);
     asked.clause = 0;
     pair_case(pair, "hardly more stack than a clause of family 1", hardly_more(taken, taken_by(call_literals)));
     pair_case(pair, "hardly more stack than the counts", hardly_more(taken, taken_by(call_counts)));
+    pair_case(pair, "as a line, hardly more stack than a clause of family 1", hardly_more(by_line, taken_by(call_clause_line)));
     return taken;
 }
 
