@@ -1,6 +1,6 @@
-/* Times one clause of families 8 and 4, asked for by its number, and plain C's three ways from a number to its pair, after all of these clauses, and some hundred
- * pairs of each way, were held against nested loops. A call judges the whole file and fills its index, so a clause of family 1 of the same file, which has no pair,
- * is timed too, and what a pair takes is the time beyond it. Files have one variable and actions of two bytes, as few as the rules allow. */
+/* Times one clause of families 8 and 4, asked for by its number, and plain C's three ways from a number to its pair, after all of these clauses, and some
+ * hundred pairs of each way, were held against nested loops. A call judges the whole file and fills its index, so a clause of family 1 of the same file, which
+ * has no pair, is timed too, and what a pair takes is the time beyond it. Files have one variable and actions of two bytes, as few as the rules allow. */
 #define _XOPEN_SOURCE 700
 #include "../include/wawrolen.h"
 
@@ -22,8 +22,8 @@ enum {
     APART = 7919   /* from a spread number to the next, around the end: a prime, so that they fall everywhere */
 };
 
-/* a file with the clauses of one family: how many values or actions there are, their pairs at a step, the steps, and the first clause; of the formula's variables,
- * how many stand before the first that a pair names, and how many are in a step */
+/* a file with the clauses of one family: how many values or actions there are, their pairs at a step, the steps, and the first clause; of the formula's
+ * variables, how many stand before the first that a pair names, and how many are in a step */
 struct asked {
     uint8_t file[MOST_FILE];
     size_t length, below, pairs, steps, first_clause;
@@ -184,8 +184,8 @@ static void run_clauses(const char *what, const struct asked *asked) {
         last[round] = beyond(asked, asked->pairs - 1, 0, &family_1[round]);
         spread[round] = beyond(asked, round * CALLS * APART, APART, &family_1[round]);
     }
-    printf("%-24s %5zu %7zu %9.1f %9.1f %9.1f %9.1f\n", what, asked->below, asked->pairs, middle_of(family_1, ROUNDS), middle_of(first, ROUNDS), middle_of(last, ROUNDS),
-           middle_of(spread, ROUNDS));
+    printf("%-24s %5zu %7zu %9.1f %9.1f %9.1f %9.1f\n", what, asked->below, asked->pairs, middle_of(family_1, ROUNDS), middle_of(first, ROUNDS),
+           middle_of(last, ROUNDS), middle_of(spread, ROUNDS));
 }
 
 static volatile size_t kept; /* so that no way is left out as unused */
@@ -205,7 +205,8 @@ static void run_way(const char *what, way *way, size_t m) {
         last[round] = time_way(way, m, pairs_below(m) - 1, 0);
         spread[round] = time_way(way, m, round * CALLS * APART, APART);
     }
-    printf("%-24s %5zu %7zu %9s %9.1f %9.1f %9.1f\n", what, m, pairs_below(m), "", middle_of(first, WAY_ROUNDS), middle_of(last, WAY_ROUNDS), middle_of(spread, WAY_ROUNDS));
+    printf("%-24s %5zu %7zu %9s %9.1f %9.1f %9.1f\n", what, m, pairs_below(m), "", middle_of(first, WAY_ROUNDS), middle_of(last, WAY_ROUNDS),
+           middle_of(spread, WAY_ROUNDS));
 }
 
 static void head(const char *what, const char *family_1) {
