@@ -1,6 +1,8 @@
 /* Calls every function of include/wawrolen.h from C: accepted and refused, with guards around every cell and behind every room.
- * The last line says how many cases passed and how many failed. */
+ * The last line says how many cases passed and how many failed; with the word "stacks" the lines before it say how much stack each
+ * function took. */
 #include "../include/wawrolen.h"
+#include "cases.h"
 
 #include <stdio.h>
 #include <string.h>
@@ -108,7 +110,7 @@ static int all_bytes(const uint8_t *bytes, size_t length, uint8_t value) {
 
 static unsigned passed, failed;
 
-static void expect(const char *name, int ok) {
+void expect(const char *name, int ok) {
     if (ok) {
         passed++;
         return;
@@ -576,7 +578,7 @@ static void schedules(void) {
     expect("the way back without the words needed: 10", told(result, detail, 10, 0) && as_found(&rows));
 }
 
-int main(void) {
+int main(int words, char **word) {
     files();
     bodies();
     translations();
@@ -590,6 +592,7 @@ int main(void) {
     ends();
     partial_models();
     schedules();
+    stack_cases(words > 1 && strcmp(word[1], "stacks") == 0);
     printf("%u passed, %u failed\n", passed, failed);
     return failed != 0;
 }
