@@ -19,7 +19,7 @@ const NO_STRETCH: usize = 18446744073709551615;
 fn sizes(file: &[u8]) -> Reply
     requires { ⌜ fileVerdict (now file) ≡ Accepted ⌝ }
 {
-    let mut index = [0usize; INDEX_LENGTH];
+    let mut index = [0u16; INDEX_LENGTH];
     task::filling::fill_index(file, &mut index);
     replies::counted(
         task::asked::variables(file),

@@ -25,7 +25,7 @@ pub const UNNAMED_IN_NEGATIVE: bool = true;
 // A variable counts as having a value at a step.
 pub fn pair_holds(
     file: &[u8],
-    index: &[usize],
+    index: &[u16],
     given: &[u64],
     truth: &[u64],
     unnamed: bool,
@@ -42,7 +42,7 @@ pub fn pair_holds(
 // The same of a variable and one of its values.
 pub fn value_holds(
     file: &[u8],
-    index: &[usize],
+    index: &[u16],
     given: &[u64],
     truth: &[u64],
     unnamed: bool,
@@ -59,7 +59,7 @@ pub fn value_holds(
 // An action counts as true at a step.
 pub fn acts(
     file: &[u8],
-    index: &[usize],
+    index: &[u16],
     given: &[u64],
     truth: &[u64],
     unnamed: bool,
@@ -74,7 +74,7 @@ pub fn acts(
 }
 
 // The number of a variable's first value at a step.
-pub fn first_value(file: &[u8], index: &[usize], step: usize, x: usize) -> usize
+pub fn first_value(file: &[u8], index: &[u16], step: usize, x: usize) -> usize
     requires { ⌜ Indexed (now file) (now index) × (step ≤ maxHorizon) × (x < n (taskOf (now file))) ⌝ }
     ensures { λ r. ⌜ r ≡ valueNumber (atAnyHorizon (now (file .entry))) step x 0 ⌝ }
 {
@@ -82,7 +82,7 @@ pub fn first_value(file: &[u8], index: &[usize], step: usize, x: usize) -> usize
 }
 
 // The number of the first action at a step.
-pub fn first_action(file: &[u8], index: &[usize], step: usize) -> usize
+pub fn first_action(file: &[u8], index: &[u16], step: usize) -> usize
     requires { ⌜ Indexed (now file) (now index) × (step ≤ maxHorizon) × (0 < actionCount (taskOf (now file))) ⌝ }
     ensures { λ r. ⌜ r ≡ actionNumber (atAnyHorizon (now (file .entry))) step 0 ⌝ }
 {

@@ -40,7 +40,7 @@ fn status_verdict(phase: Phase) -> Verdict
 // Refusal 17.
 fn model_verdict(
     file: &[u8],
-    index: &[usize],
+    index: &[u16],
     horizon: usize,
     given: &[u64],
     truth: &[u64],
@@ -58,7 +58,7 @@ fn model_verdict(
 // There is room for the rows and the entries.
 fn room_fits(
     file: &[u8],
-    index: &[usize],
+    index: &[u16],
     horizon: usize,
     given: &[u64],
     truth: &[u64],
@@ -80,7 +80,7 @@ fn room_fits(
 // All refusals that follow an accepted file and horizon, in their order.
 fn end_verdict(
     file: &[u8],
-    index: &[usize],
+    index: &[u16],
     horizon: usize,
     phase: Phase,
     given: &[u64],
@@ -116,7 +116,7 @@ pub fn finish(
     let Verdict::Accepted = problem else {
         return problem;
     };
-    let mut index = [0usize; INDEX_LENGTH];
+    let mut index = [0u16; INDEX_LENGTH];
     fill_index(file, &mut index);
     let phase = reading.phase;
     let verdict = end_verdict(file, &index, horizon, phase, given, truth, entries.len());

@@ -31,7 +31,7 @@ ghost use Rattle.checker.specs.Order.{pairAt, isUnmet, clausesOf, Come, 
 // A variable is named to have its start value at the first step.
 pub fn start_clause(
     file: &[u8],
-    index: &[usize],
+    index: &[u16],
     horizon: usize,
     given: &[u64],
     truth: &[u64],
@@ -51,7 +51,7 @@ pub fn start_clause(
 // A goal pair is named to hold at the last step.
 pub fn goal_clause(
     file: &[u8],
-    index: &[usize],
+    index: &[u16],
     horizon: usize,
     given: &[u64],
     truth: &[u64],
@@ -79,7 +79,7 @@ pub fn goal_clause(
 // A variable is named to have some value at a step.
 pub fn some_value_clause(
     file: &[u8],
-    index: &[usize],
+    index: &[u16],
     horizon: usize,
     given: &[u64],
     truth: &[u64],
@@ -101,7 +101,7 @@ pub fn some_value_clause(
 // Of every two values one is named false there.
 pub fn two_values_clauses(
     file: &[u8],
-    index: &[usize],
+    index: &[u16],
     horizon: usize,
     given: &[u64],
     truth: &[u64],
@@ -119,7 +119,7 @@ pub fn two_values_clauses(
 // Pair i of an action's preconditions is named to hold at a step.
 fn precondition_holds(
     file: &[u8],
-    index: &[usize],
+    index: &[u16],
     given: &[u64],
     truth: &[u64],
     step: usize,
@@ -143,7 +143,7 @@ fn precondition_holds(
 // The preconditions of an action that is not named false at a step are named to hold there.
 pub fn precondition_clauses(
     file: &[u8],
-    index: &[usize],
+    index: &[u16],
     horizon: usize,
     given: &[u64],
     truth: &[u64],
@@ -171,7 +171,7 @@ pub fn precondition_clauses(
 // Pair i of an action's effects is named to hold at a step.
 fn effect_holds(
     file: &[u8],
-    index: &[usize],
+    index: &[u16],
     given: &[u64],
     truth: &[u64],
     step: usize,
@@ -195,7 +195,7 @@ fn effect_holds(
 // Its effects are named to hold at the next.
 pub fn effect_clauses(
     file: &[u8],
-    index: &[usize],
+    index: &[u16],
     horizon: usize,
     given: &[u64],
     truth: &[u64],
@@ -223,7 +223,7 @@ pub fn effect_clauses(
 // Of every two actions at a step one is named false.
 pub fn two_actions_clauses(
     file: &[u8],
-    index: &[usize],
+    index: &[u16],
     horizon: usize,
     given: &[u64],
     truth: &[u64],

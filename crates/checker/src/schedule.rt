@@ -17,7 +17,7 @@ ghost use Rattle.rules.specs.Truth.{modelIn};
 ghost use Rattle.rows.specs.Lent.{lent};
 
 // The entry of a step: one more than the number of the action that is named true there, 0 where there is none.
-fn entry_at(file: &[u8], index: &[usize], given: &[u64], truth: &[u64], step: usize) -> u32
+fn entry_at(file: &[u8], index: &[u16], given: &[u64], truth: &[u64], step: usize) -> u32
     requires { ⌜ Indexed (now file) (now index) × (step ≤ maxHorizon) ⌝ }
     ensures { λ r. ⌜ r ≡ entryOf (atAnyHorizon (now (file .entry))) (modelIn (lent (now (given .entry)) (now (truth .entry)))) step ⌝ }
 {
@@ -36,7 +36,7 @@ fn entry_at(file: &[u8], index: &[usize], given: &[u64], truth: &[u64], step: us
 // The entries of all steps; those behind them stay.
 pub fn write_schedule(
     file: &[u8],
-    index: &[usize],
+    index: &[u16],
     horizon: usize,
     given: &[u64],
     truth: &[u64],

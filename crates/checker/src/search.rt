@@ -34,7 +34,7 @@ ghost use Rattle.checker.specs.Order.{isUnmet, stepsOf, clausesOf, stepC
 // The lowest unmet clause up to the end of an item.
 fn in_item(
     file: &[u8],
-    index: &[usize],
+    index: &[u16],
     horizon: usize,
     given: &[u64],
     truth: &[u64],
@@ -73,7 +73,7 @@ fn in_item(
 // Up to the end of a step.
 fn in_step(
     file: &[u8],
-    index: &[usize],
+    index: &[u16],
     horizon: usize,
     given: &[u64],
     truth: &[u64],
@@ -102,7 +102,7 @@ fn in_step(
 // Up to the end of a family.
 fn in_family(
     file: &[u8],
-    index: &[usize],
+    index: &[u16],
     horizon: usize,
     given: &[u64],
     truth: &[u64],
@@ -129,7 +129,7 @@ fn in_family(
 }
 
 // How many clauses a family has.
-fn family_clauses(file: &[u8], index: &[usize], horizon: usize, family: usize) -> usize
+fn family_clauses(file: &[u8], index: &[u16], horizon: usize, family: usize) -> usize
     requires { ⌜ Indexed (now file) (now index) × (horizon ≤ maxHorizon) × (family < familyCount) ⌝ }
     ensures { λ r. ⌜ r ≡ stepsOf horizon family * stepClauses (taskOf (now (file .entry))) family ⌝ }
 {
@@ -139,7 +139,7 @@ fn family_clauses(file: &[u8], index: &[usize], horizon: usize, family: usize) -
 // The lowest unmet clause; C where none is.
 pub fn lowest_unmet(
     file: &[u8],
-    index: &[usize],
+    index: &[u16],
     horizon: usize,
     given: &[u64],
     truth: &[u64],
@@ -162,7 +162,7 @@ pub fn lowest_unmet(
 }
 
 // C.
-pub fn all_clauses(file: &[u8], index: &[usize], horizon: usize) -> usize
+pub fn all_clauses(file: &[u8], index: &[u16], horizon: usize) -> usize
     requires { ⌜ Indexed (now file) (now index) × (horizon ≤ maxHorizon) ⌝ }
     ensures { λ r. ⌜ r ≡ C (problemOf (now (file .entry)) horizon) ⌝ }
 {

@@ -49,7 +49,7 @@ pub fn steps_of(horizon: usize, family: usize) -> usize
 }
 
 // How many items it has at each step.
-pub fn items_of(file: &[u8], index: &[usize], family: usize) -> usize
+pub fn items_of(file: &[u8], index: &[u16], family: usize) -> usize
     requires { ⌜ Indexed (now file) (now index) × (family < familyCount) ⌝ }
     ensures { λ r. ⌜ r ≡ itemsOf (taskOf (now (file .entry))) family ⌝ }
 {
@@ -69,7 +69,7 @@ pub fn items_of(file: &[u8], index: &[usize], family: usize) -> usize
 }
 
 // How many clauses an item has.
-pub fn clauses_of(file: &[u8], index: &[usize], family: usize, i: usize) -> usize
+pub fn clauses_of(file: &[u8], index: &[u16], family: usize, i: usize) -> usize
     requires { ⌜ Indexed (now file) (now index) × (family < familyCount) × (i < itemsOf (taskOf (now file)) family) ⌝ }
     ensures { λ r. ⌜ r ≡ clausesOf (taskOf (now (file .entry))) family i ⌝ }
 {
@@ -92,7 +92,7 @@ pub fn clauses_of(file: &[u8], index: &[usize], family: usize, i: usize) -> usiz
 }
 
 // How many clauses a step has.
-pub fn step_clauses(file: &[u8], index: &[usize], family: usize) -> usize
+pub fn step_clauses(file: &[u8], index: &[u16], family: usize) -> usize
     requires { ⌜ Indexed (now file) (now index) × (family < familyCount) ⌝ }
     ensures { λ r. ⌜ r ≡ stepClauses (taskOf (now (file .entry))) family ⌝ }
 {

@@ -24,7 +24,7 @@ ghost use Rattle.checker.specs.Order.{isUnmet, clausesOf, Come, valuesSt
 ghost use Rattle.checker.specs.Staying.{effectIs, givesAt, supportedAt, changesAlone};
 
 // Effect i of an action is x = v.
-fn effect_is(file: &[u8], index: &[usize], a: usize, i: usize, x: usize, v: usize) -> bool
+fn effect_is(file: &[u8], index: &[u16], a: usize, i: usize, x: usize, v: usize) -> bool
     requires { ⌜ Indexed (now file) (now index) × (a < actionCount (taskOf (now file))) × (i < length (action (taskOf (now file)) a .effects)) ⌝ }
     ensures { λ r. ⌜ r ≡ effectIs (now (file .entry)) a x v i ⌝ }
 {
@@ -35,7 +35,7 @@ fn effect_is(file: &[u8], index: &[usize], a: usize, i: usize, x: usize, v: usiz
 }
 
 // An action has the effect x = v.
-fn gives(file: &[u8], index: &[usize], a: usize, x: usize, v: usize) -> bool
+fn gives(file: &[u8], index: &[u16], a: usize, x: usize, v: usize) -> bool
     requires { ⌜ Indexed (now file) (now index) × (a < actionCount (taskOf (now file))) ⌝ }
     ensures { λ r. ⌜ r ≡ givesAt (now (file .entry)) x v a ⌝ }
 {
@@ -53,7 +53,7 @@ fn gives(file: &[u8], index: &[usize], a: usize, x: usize, v: usize) -> bool
 // An action that is named true at a step gives x = v; only those are looked at.
 fn supported(
     file: &[u8],
-    index: &[usize],
+    index: &[u16],
     given: &[u64],
     truth: &[u64],
     step: usize,
@@ -82,7 +82,7 @@ fn supported(
 // A value is not named false at the next step and not named true at this one, and no action that is named true gives it.
 fn changes_alone(
     file: &[u8],
-    index: &[usize],
+    index: &[u16],
     given: &[u64],
     truth: &[u64],
     step: usize,
@@ -113,7 +113,7 @@ fn changes_alone(
 // No value of a variable changes alone at a step.
 pub fn stay_clauses(
     file: &[u8],
-    index: &[usize],
+    index: &[u16],
     horizon: usize,
     given: &[u64],
     truth: &[u64],

@@ -33,7 +33,7 @@ const TEXT_ROOM: usize = 262144;
 const REFUSAL_LINES: usize = 1;
 
 // All lines, as many at a time as fit: how many were made and printed. In room for any line none is refused.
-fn print_lines(file: &[u8], index: &[usize], horizon: usize, out: &mut [u8]) -> usize
+fn print_lines(file: &[u8], index: &[u16], horizon: usize, out: &mut [u8]) -> usize
     requires { ⌜ Indexed (now file) (now index) × (horizon ≤ maxHorizon) × (lineRoom ≤ length (now out)) ⌝ }
     ensures { λ r. ⌜ r ≡ C (problemOf (now (file .entry)) horizon) ⌝ }
 {
@@ -51,7 +51,7 @@ fn print_lines(file: &[u8], index: &[usize], horizon: usize, out: &mut [u8]) -> 
 }
 
 // The header and the lines behind it: how many were made and printed.
-fn print_formula(file: &[u8], index: &[usize], horizon: usize, out: &mut [u8]) -> usize
+fn print_formula(file: &[u8], index: &[u16], horizon: usize, out: &mut [u8]) -> usize
     requires { ⌜ Indexed (now file) (now index) × (horizon ≤ maxHorizon) × (lineRoom ≤ length (now out)) ⌝ }
     ensures { λ r. ⌜ r ≡ suc (C (problemOf (now (file .entry)) horizon)) ⌝ }
 {
@@ -73,7 +73,7 @@ fn print_answer(file: &[u8], horizon: usize, out: &mut [u8]) -> usize
         io::write_all(STDOUT_FILENO, &out[..bytes]);
         return REFUSAL_LINES;
     }
-    let mut index = [0usize; INDEX_LENGTH];
+    let mut index = [0u16; INDEX_LENGTH];
     fill_index(file, &mut index);
     print_formula(file, &index, horizon, out)
 }

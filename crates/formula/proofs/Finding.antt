@@ -18,9 +18,9 @@ use Rattle.task.specs.Index.{Indexed, variableWidth, actionWidth, actionsAt, va
 use Rattle.task.proofs.Asking.{index-long, offset-asked, value-pairs-asked, preconditions-asked, effects-asked}
 use Rattle.formula.specs.Parts.{column, Spans, InPart}
 
-pub column-read : (index : List ℕ) (at width i : ℕ) → getD index (at + width * i) 0 ≡ column index at width i
+pub column-read : (index : List ℕ) (at width i r : ℕ) → r ≡ getD index (at + width * i) 0 → r ≡ column index at width i
 unfolding column
-column-read index at width i = ap (λ k. getD index k 0) (omega arith)
+column-read index at width i r e = e
 
 -- ---- the halving
 

@@ -37,7 +37,7 @@ pub fn counts(file: &[u8], horizon: usize) -> CountsAnswer
     if let Verdict::Refused(why) = verdict {
         return CountsAnswer::Refused(why);
     }
-    let mut index = [0usize; INDEX_LENGTH];
+    let mut index = [0u16; INDEX_LENGTH];
     fill_index(file, &mut index);
     CountsAnswer::Found {
         variables: count_variables(file, &index, horizon),
@@ -48,7 +48,7 @@ pub fn counts(file: &[u8], horizon: usize) -> CountsAnswer
 // The same as `literals`, of an accepted file with its index.
 pub fn literals_indexed(
     file: &[u8],
-    index: &[usize],
+    index: &[u16],
     horizon: usize,
     c: usize,
     out: &mut [i32],
@@ -78,7 +78,7 @@ pub fn literals(file: &[u8], horizon: usize, c: usize, out: &mut [i32]) -> Liter
     if let Verdict::Refused(why) = verdict {
         return LiteralsAnswer::Refused(why);
     }
-    let mut index = [0usize; INDEX_LENGTH];
+    let mut index = [0u16; INDEX_LENGTH];
     fill_index(file, &mut index);
     literals_indexed(file, &index, horizon, c, out)
 }

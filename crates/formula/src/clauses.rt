@@ -25,7 +25,7 @@ ghost use Rattle.formula.specs.InFamily.{InRange};
 ghost use Rattle.formula.specs.Front.{literalCount, Ready, clauseWritten};
 
 // How many literals the clause at a place has.
-pub fn literal_count(file: &[u8], index: &[usize], horizon: usize, place: Place) -> usize
+pub fn literal_count(file: &[u8], index: &[u16], horizon: usize, place: Place) -> usize
     requires { ⌜ Indexed (now file) (now index) × InRange (problem (taskOf (now file)) horizon) place ⌝ }
     ensures { λ r. ⌜ r ≡ literalCount (now (file .entry)) horizon place ⌝ }
 {
@@ -41,7 +41,7 @@ pub fn literal_count(file: &[u8], index: &[usize], horizon: usize, place: Place)
     }
 }
 
-fn put_start(file: &[u8], index: &[usize], horizon: usize, x: usize, out: &mut [i32])
+fn put_start(file: &[u8], index: &[u16], horizon: usize, x: usize, out: &mut [i32])
     requires { ⌜ Indexed (now file) (now index) × (horizon ≤ maxHorizon) × Ready (now file) horizon (Place.Start x) (length (now out)) ⌝ }
     ensures { λ _. ⌜ now (out .exit) ≡ clauseWritten (now (file .entry)) horizon (Place.Start x) (now (out .entry)) ⌝ }
 {
@@ -49,7 +49,7 @@ fn put_start(file: &[u8], index: &[usize], horizon: usize, x: usize, out: &mut [
     put_plus(out, 0, value_at(file, index, horizon, 0, x, v));
 }
 
-fn put_goal(file: &[u8], index: &[usize], horizon: usize, i: usize, out: &mut [i32])
+fn put_goal(file: &[u8], index: &[u16], horizon: usize, i: usize, out: &mut [i32])
     requires { ⌜ Indexed (now file) (now index) × (horizon ≤ maxHorizon) × Ready (now file) horizon (Place.Goal i) (length (now out)) ⌝ }
     ensures { λ _. ⌜ now (out .exit) ≡ clauseWritten (now (file .entry)) horizon (Place.Goal i) (now (out .entry)) ⌝ }
 {
@@ -57,7 +57,7 @@ fn put_goal(file: &[u8], index: &[usize], horizon: usize, i: usize, out: &mut [i
     put_plus(out, 0, pair_at(file, index, horizon, horizon, pair));
 }
 
-fn put_all_values(file: &[u8], index: &[usize], horizon: usize, s: usize, x: usize, out: &mut [i32])
+fn put_all_values(file: &[u8], index: &[u16], horizon: usize, s: usize, x: usize, out: &mut [i32])
     requires { ⌜ Indexed (now file) (now index) × (horizon ≤ maxHorizon) × Ready (now file) horizon (Place.AllValues s x) (length (now out)) ⌝ }
     ensures { λ _. ⌜ now (out .exit) ≡ clauseWritten (now (file .entry)) horizon (Place.AllValues s x) (now (out .entry)) ⌝ }
 {
@@ -71,7 +71,7 @@ fn put_all_values(file: &[u8], index: &[usize], horizon: usize, s: usize, x: usi
 
 fn put_two_values(
     file: &[u8],
-    index: &[usize],
+    index: &[u16],
     horizon: usize,
     s: usize,
     x: usize,
@@ -89,7 +89,7 @@ fn put_two_values(
 
 fn put_precondition(
     file: &[u8],
-    index: &[usize],
+    index: &[u16],
     horizon: usize,
     s: usize,
     a: usize,
@@ -107,7 +107,7 @@ fn put_precondition(
 
 fn put_effect(
     file: &[u8],
-    index: &[usize],
+    index: &[u16],
     horizon: usize,
     s: usize,
     a: usize,
@@ -125,7 +125,7 @@ fn put_effect(
 
 fn put_stays(
     file: &[u8],
-    index: &[usize],
+    index: &[u16],
     horizon: usize,
     s: usize,
     x: usize,
@@ -143,7 +143,7 @@ fn put_stays(
 
 fn put_two_actions(
     file: &[u8],
-    index: &[usize],
+    index: &[u16],
     horizon: usize,
     s: usize,
     a: usize,
@@ -159,7 +159,7 @@ fn put_two_actions(
 }
 
 // The literals of the clause at a place.
-pub fn put_clause(file: &[u8], index: &[usize], horizon: usize, place: Place, out: &mut [i32])
+pub fn put_clause(file: &[u8], index: &[u16], horizon: usize, place: Place, out: &mut [i32])
     requires { ⌜ Indexed (now file) (now index) × (horizon ≤ maxHorizon) × Ready (now file) horizon place (length (now out)) ⌝ }
     ensures { λ _. ⌜ now (out .exit) ≡ clauseWritten (now (file .entry)) horizon place (now (out .entry)) ⌝ }
 {

@@ -33,7 +33,7 @@ fn steps(horizon: usize, f: usize) -> usize
 }
 
 // How many clauses family f has at a step.
-pub fn width(file: &[u8], index: &[usize], f: usize) -> usize
+pub fn width(file: &[u8], index: &[u16], f: usize) -> usize
     requires { ⌜ Indexed (now file) (now index) × (f < familyCount) ⌝ }
     ensures { λ r. ⌜ r ≡ widthOf (taskOf (now (file .entry))) f ⌝ }
 {
@@ -62,7 +62,7 @@ pub fn width(file: &[u8], index: &[usize], f: usize) -> usize
 }
 
 // How many clauses family f has.
-pub fn count_of(file: &[u8], index: &[usize], horizon: usize, f: usize) -> usize
+pub fn count_of(file: &[u8], index: &[u16], horizon: usize, f: usize) -> usize
     requires { ⌜ Indexed (now file) (now index) × (horizon ≤ maxHorizon) × (f < familyCount) ⌝ }
     ensures { λ r. ⌜ r ≡ countOf (taskOf (now (file .entry))) horizon f ⌝ }
 {
@@ -70,7 +70,7 @@ pub fn count_of(file: &[u8], index: &[usize], horizon: usize, f: usize) -> usize
 }
 
 // C.
-pub fn count_clauses(file: &[u8], index: &[usize], horizon: usize) -> usize
+pub fn count_clauses(file: &[u8], index: &[u16], horizon: usize) -> usize
     requires { ⌜ Indexed (now file) (now index) × (horizon ≤ maxHorizon) ⌝ }
     ensures { λ r. ⌜ r ≡ C (problemOf (now (file .entry)) horizon) ⌝ }
 {

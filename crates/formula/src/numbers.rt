@@ -17,7 +17,7 @@ ghost use Rattle.task.specs.Index.{Indexed};
 // A variable and its value at step s.
 pub fn pair_at(
     file: &[u8],
-    index: &[usize],
+    index: &[u16],
     horizon: usize,
     s: usize,
     place: ValuePlace,
@@ -31,7 +31,7 @@ pub fn pair_at(
 // Value v of variable x at step s.
 pub fn value_at(
     file: &[u8],
-    index: &[usize],
+    index: &[u16],
     horizon: usize,
     s: usize,
     x: usize,
@@ -44,7 +44,7 @@ pub fn value_at(
 }
 
 // Action a at step s.
-pub fn action_at(file: &[u8], index: &[usize], horizon: usize, s: usize, a: usize) -> FormulaNumber
+pub fn action_at(file: &[u8], index: &[u16], horizon: usize, s: usize, a: usize) -> FormulaNumber
     requires { ⌜ Indexed (now file) (now index) × (horizon ≤ maxHorizon) × (s < horizon) × (a < actionCount (taskOf (now file))) ⌝ }
     ensures { λ r. ⌜ (r .0 ≡ actionNumber (problem (taskOf (now (file .entry))) horizon) s a) × (r .0 ≤ maxN) ⌝ }
 {

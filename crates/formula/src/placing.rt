@@ -30,7 +30,7 @@ pub struct Rank {
 }
 
 // The family of clause c.
-fn family_of(file: &[u8], index: &[usize], horizon: usize, c: usize) -> Rank
+fn family_of(file: &[u8], index: &[u16], horizon: usize, c: usize) -> Rank
     requires { ⌜ Indexed (now file) (now index) × (horizon ≤ maxHorizon) × (c < C (problemOf (now file) horizon)) ⌝ }
     ensures { λ r. ⌜ (r .family < familyCount) × (r .before < countOf (taskOf (now (file .entry))) horizon (r .family))
         × (clausesBefore (taskOf (now (file .entry))) horizon (r .family) + r .before ≡ c) ⌝ }
@@ -47,7 +47,7 @@ fn family_of(file: &[u8], index: &[usize], horizon: usize, c: usize) -> Rank
 }
 
 // Two values of a variable.
-fn two_values(file: &[u8], index: &[usize], horizon: usize, s: usize, q: usize) -> Place
+fn two_values(file: &[u8], index: &[u16], horizon: usize, s: usize, q: usize) -> Place
     requires { ⌜ Indexed (now file) (now index) × (s < stepsOf horizon 3) × (q < widthOf (taskOf (now file)) 3) ⌝ }
     ensures { λ r. ⌜ PlacedIn (now (file .entry)) horizon 3 s q r ⌝ }
 {
@@ -57,7 +57,7 @@ fn two_values(file: &[u8], index: &[usize], horizon: usize, s: usize, q: usize) 
 }
 
 // A precondition.
-fn precondition(file: &[u8], index: &[usize], horizon: usize, s: usize, q: usize) -> Place
+fn precondition(file: &[u8], index: &[u16], horizon: usize, s: usize, q: usize) -> Place
     requires { ⌜ Indexed (now file) (now index) × (s < stepsOf horizon 4) × (q < widthOf (taskOf (now file)) 4) ⌝ }
     ensures { λ r. ⌜ PlacedIn (now (file .entry)) horizon 4 s q r ⌝ }
 {
@@ -66,7 +66,7 @@ fn precondition(file: &[u8], index: &[usize], horizon: usize, s: usize, q: usize
 }
 
 // An effect.
-fn effect(file: &[u8], index: &[usize], horizon: usize, s: usize, q: usize) -> Place
+fn effect(file: &[u8], index: &[u16], horizon: usize, s: usize, q: usize) -> Place
     requires { ⌜ Indexed (now file) (now index) × (s < stepsOf horizon 5) × (q < widthOf (taskOf (now file)) 5) ⌝ }
     ensures { λ r. ⌜ PlacedIn (now (file .entry)) horizon 5 s q r ⌝ }
 {
@@ -75,7 +75,7 @@ fn effect(file: &[u8], index: &[usize], horizon: usize, s: usize, q: usize) -> P
 }
 
 // A value that stays.
-fn stays(file: &[u8], index: &[usize], horizon: usize, s: usize, q: usize) -> Place
+fn stays(file: &[u8], index: &[u16], horizon: usize, s: usize, q: usize) -> Place
     requires { ⌜ Indexed (now file) (now index) × (s < stepsOf horizon 6) × (q < widthOf (taskOf (now file)) 6) ⌝ }
     ensures { λ r. ⌜ PlacedIn (now (file .entry)) horizon 6 s q r ⌝ }
 {
@@ -84,7 +84,7 @@ fn stays(file: &[u8], index: &[usize], horizon: usize, s: usize, q: usize) -> Pl
 }
 
 // Two actions.
-fn two_actions(file: &[u8], index: &[usize], horizon: usize, s: usize, q: usize) -> Place
+fn two_actions(file: &[u8], index: &[u16], horizon: usize, s: usize, q: usize) -> Place
     requires { ⌜ Indexed (now file) (now index) × (s < stepsOf horizon 7) × (q < widthOf (taskOf (now file)) 7) ⌝ }
     ensures { λ r. ⌜ PlacedIn (now (file .entry)) horizon 7 s q r ⌝ }
 {
@@ -93,7 +93,7 @@ fn two_actions(file: &[u8], index: &[usize], horizon: usize, s: usize, q: usize)
 }
 
 // Clause q of step s of family f.
-fn place_in(file: &[u8], index: &[usize], horizon: usize, f: usize, s: usize, q: usize) -> Place
+fn place_in(file: &[u8], index: &[u16], horizon: usize, f: usize, s: usize, q: usize) -> Place
     requires { ⌜ Indexed (now file) (now index) × (f < familyCount) × (s < stepsOf horizon f) × (q < widthOf (taskOf (now file)) f) ⌝ }
     ensures { λ r. ⌜ PlacedIn (now (file .entry)) horizon f s q r ⌝ }
 {
@@ -122,7 +122,7 @@ fn place_in(file: &[u8], index: &[usize], horizon: usize, f: usize, s: usize, q:
 }
 
 // The place of clause c.
-pub fn place_of(file: &[u8], index: &[usize], horizon: usize, c: usize) -> Place
+pub fn place_of(file: &[u8], index: &[u16], horizon: usize, c: usize) -> Place
     requires { ⌜ Indexed (now file) (now index) × (horizon ≤ maxHorizon) × (c < C (problemOf (now file) horizon)) ⌝ }
     ensures { λ r. ⌜ IsAt (problemOf (now (file .entry)) horizon) c r ⌝ }
 {

@@ -4,6 +4,7 @@ use task::index::ACTION_WIDTH;
 use task::index::ACTIONS_AT;
 use task::index::VARIABLE_WIDTH;
 use task::index::actions;
+use task::index::number_in;
 ghost use mathlib.Core.Path.{_≡_};
 ghost use Prim.Native.Nat.{_+_, _*_, _<_};
 ghost use lib.ListN.{length};
@@ -15,15 +16,15 @@ ghost use Rattle.task.specs.Index.{Indexed, valuePairsBefore, preconditionsBefo
 ghost use Rattle.formula.specs.Parts.{column, Spans, InPart};
 
 // Number i of a column.
-fn number_at(index: &[usize], at: usize, width: usize, i: usize) -> usize
+fn number_at(index: &[u16], at: usize, width: usize, i: usize) -> usize
     requires { ⌜ at + width * i < length (now index) ⌝ }
     ensures { λ r. ⌜ r ≡ column (now (index .entry)) at width i ⌝ }
 {
-    index[at + width * i]
+    number_in(index, at + width * i)
 }
 
 // The row at which a column passes q: lo and hi bracket it, and each turn halves how far they are apart.
-fn row_of(index: &[usize], at: usize, width: usize, rows: usize, q: usize) -> usize
+fn row_of(index: &[u16], at: usize, width: usize, rows: usize, q: usize) -> usize
     requires { ⌜ Spans (now index) at width rows q ⌝ }
     ensures { λ row. ⌜ Passes (column (now (index .entry)) at width) rows q row ⌝ }
 {
@@ -41,7 +42,7 @@ fn row_of(index: &[usize], at: usize, width: usize, rows: usize, q: usize) -> us
 }
 
 // The variable of value q of all values.
-pub fn variable_of_value(file: &[u8], index: &[usize], q: usize) -> usize
+pub fn variable_of_value(file: &[u8], index: &[u16], q: usize) -> usize
     requires { ⌜ Indexed (now file) (now index) × (q < S (taskOf (now file))) ⌝ }
     ensures { λ x. ⌜ InPart (n (taskOf (now (file .entry)))) (d (taskOf (now (file .entry)))) q x ⌝ }
 {
@@ -49,7 +50,7 @@ pub fn variable_of_value(file: &[u8], index: &[usize], q: usize) -> usize
 }
 
 // The variable of pair q of all pairs of values of one variable.
-pub fn variable_of_pair(file: &[u8], index: &[usize], q: usize) -> usize
+pub fn variable_of_pair(file: &[u8], index: &[u16], q: usize) -> usize
     requires { ⌜ Indexed (now file) (now index) × (q < valuePairsBefore (taskOf (now file)) (n (taskOf (now file)))) ⌝ }
     ensures { λ x. ⌜ InPart (n (taskOf (now (file .entry)))) (λ x. pairsBelow (d (taskOf (now (file .entry))) x)) q x ⌝ }
 {
@@ -57,7 +58,7 @@ pub fn variable_of_pair(file: &[u8], index: &[usize], q: usize) -> usize
 }
 
 // The action of precondition q of all preconditions.
-pub fn action_of_precondition(file: &[u8], index: &[usize], q: usize) -> usize
+pub fn action_of_precondition(file: &[u8], index: &[u16], q: usize) -> usize
     requires { ⌜ Indexed (now file) (now index) × (q < preconditionsBefore (taskOf (now file)) (actionCount (taskOf (now file)))) ⌝ }
     ensures { λ a. ⌜ InPart (actionCount (taskOf (now (file .entry)))) (λ a. length (action (taskOf (now (file .entry))) a .preconditions)) q a ⌝ }
 {
@@ -65,7 +66,7 @@ pub fn action_of_precondition(file: &[u8], index: &[usize], q: usize) -> usize
 }
 
 // The action of effect q of all effects.
-pub fn action_of_effect(file: &[u8], index: &[usize], q: usize) -> usize
+pub fn action_of_effect(file: &[u8], index: &[u16], q: usize) -> usize
     requires { ⌜ Indexed (now file) (now index) × (q < effectsBefore (taskOf (now file)) (actionCount (taskOf (now file)))) ⌝ }
     ensures { λ a. ⌜ InPart (actionCount (taskOf (now (file .entry)))) (λ a. length (action (taskOf (now (file .entry))) a .effects)) q a ⌝ }
 {

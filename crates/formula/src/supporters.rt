@@ -32,7 +32,7 @@ fn is_pair(pair: ValuePlace, x: usize, v: usize) -> bool
 }
 
 // Whether effect i of action a is x = v.
-fn gives(file: &[u8], index: &[usize], a: usize, x: usize, v: usize, i: usize) -> bool
+fn gives(file: &[u8], index: &[u16], a: usize, x: usize, v: usize, i: usize) -> bool
     requires { ⌜ Indexed (now file) (now index) × (a < actionCount (taskOf (now file))) × (i < length (action (taskOf (now file)) a .effects)) ⌝ }
     ensures { λ r. ⌜ r ≡ givesBy (taskOf (now (file .entry))) a x v i ⌝ }
 {
@@ -40,7 +40,7 @@ fn gives(file: &[u8], index: &[usize], a: usize, x: usize, v: usize, i: usize) -
 }
 
 // Whether action a has the effect x = v.
-fn is_given(file: &[u8], index: &[usize], a: usize, x: usize, v: usize) -> bool
+fn is_given(file: &[u8], index: &[u16], a: usize, x: usize, v: usize) -> bool
     requires { ⌜ Indexed (now file) (now index) × (a < actionCount (taskOf (now file))) ⌝ }
     ensures { λ r. ⌜ r ≡ isGiven (taskOf (now (file .entry))) a x v ⌝ }
 {
@@ -58,7 +58,7 @@ fn is_given(file: &[u8], index: &[usize], a: usize, x: usize, v: usize) -> bool
 // 1 where action a has the effect x = v, 0 where not.
 fn given_count(
     file: &[u8],
-    index: &[usize],
+    index: &[u16],
     horizon: usize,
     s: usize,
     x: usize,
@@ -77,7 +77,7 @@ fn given_count(
 // How many actions have the effect x = v.
 pub fn supporter_count(
     file: &[u8],
-    index: &[usize],
+    index: &[u16],
     horizon: usize,
     s: usize,
     x: usize,
@@ -99,7 +99,7 @@ pub fn supporter_count(
 // Action a's literal, where it has the effect x = v; the place behind it.
 fn put_supporter(
     file: &[u8],
-    index: &[usize],
+    index: &[u16],
     horizon: usize,
     s: usize,
     x: usize,
@@ -123,7 +123,7 @@ fn put_supporter(
 // The literals of all actions with the effect x = v, from a place on.
 pub fn put_supporters(
     file: &[u8],
-    index: &[usize],
+    index: &[u16],
     horizon: usize,
     s: usize,
     x: usize,

@@ -27,7 +27,7 @@ ghost use Rattle.lines.specs.AtPlace.{placeLine, RoomFor, PairRoomFor};
 // The start value of a variable.
 fn put_start(
     file: &[u8],
-    index: &[usize],
+    index: &[u16],
     horizon: usize,
     x: usize,
     out: &mut [u8],
@@ -44,7 +44,7 @@ fn put_start(
 // A goal pair.
 fn put_goal(
     file: &[u8],
-    index: &[usize],
+    index: &[u16],
     horizon: usize,
     i: usize,
     out: &mut [u8],
@@ -61,7 +61,7 @@ fn put_goal(
 // All values of a variable at a step.
 fn put_all_values(
     file: &[u8],
-    index: &[usize],
+    index: &[u16],
     horizon: usize,
     s: usize,
     x: usize,
@@ -85,7 +85,7 @@ fn put_all_values(
 // Two values of a variable at a step.
 fn put_two_values(
     file: &[u8],
-    index: &[usize],
+    index: &[u16],
     horizon: usize,
     s: usize,
     x: usize,
@@ -106,7 +106,7 @@ fn put_two_values(
 // A precondition at a step.
 pub fn put_precondition(
     file: &[u8],
-    index: &[usize],
+    index: &[u16],
     horizon: usize,
     s: usize,
     a: usize,
@@ -127,7 +127,7 @@ pub fn put_precondition(
 // An effect at a step.
 pub fn put_effect(
     file: &[u8],
-    index: &[usize],
+    index: &[u16],
     horizon: usize,
     s: usize,
     a: usize,
@@ -148,7 +148,7 @@ pub fn put_effect(
 // Two actions at a step.
 fn put_two_actions(
     file: &[u8],
-    index: &[usize],
+    index: &[u16],
     horizon: usize,
     s: usize,
     a: usize,
@@ -168,7 +168,7 @@ fn put_two_actions(
 // The line of the clause at a place.
 pub fn put_clause(
     file: &[u8],
-    index: &[usize],
+    index: &[u16],
     horizon: usize,
     place: Place,
     out: &mut [u8],

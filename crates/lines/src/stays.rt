@@ -33,7 +33,7 @@ ghost use Rattle.lines.specs.Given.{setsIt, givenTo, Noted};
 const NO_VALUE: usize = 255;
 
 // How many effects action a has.
-fn effects_of(file: &[u8], index: &[usize], a: usize) -> usize
+fn effects_of(file: &[u8], index: &[u16], a: usize) -> usize
     requires { ⌜ Indexed (now file) (now index) × (a < actionCount (taskOf (now file))) ⌝ }
     ensures { λ r. ⌜ r ≡ length (action (taskOf (now (file .entry))) a .effects) ⌝ }
 {
@@ -41,7 +41,7 @@ fn effects_of(file: &[u8], index: &[usize], a: usize) -> usize
 }
 
 // Effect i of action a.
-fn effect_of(file: &[u8], index: &[usize], a: usize, i: usize) -> ValuePlace
+fn effect_of(file: &[u8], index: &[u16], a: usize, i: usize) -> ValuePlace
     requires { ⌜ Indexed (now file) (now index) × (a < actionCount (taskOf (now file))) × (i < length (action (taskOf (now file)) a .effects)) ⌝ }
     ensures { λ r. ⌜ (r .0 ≡ pair (action (taskOf (now (file .entry))) a .effects) i .variable) × (r .1 ≡ pair (action (taskOf (now (file .entry))) a .effects) i .value) ⌝ }
 {
@@ -49,7 +49,7 @@ fn effect_of(file: &[u8], index: &[usize], a: usize, i: usize) -> ValuePlace
 }
 
 // Whether effect i of action a is of x.
-fn sets(file: &[u8], index: &[usize], x: usize, a: usize, i: usize) -> bool
+fn sets(file: &[u8], index: &[u16], x: usize, a: usize, i: usize) -> bool
     requires { ⌜ Indexed (now file) (now index) × (a < actionCount (taskOf (now file))) × (i < length (action (taskOf (now file)) a .effects)) ⌝ }
     ensures { λ r. ⌜ r ≡ setsIt (taskOf (now (file .entry))) x a i ⌝ }
 {
@@ -57,7 +57,7 @@ fn sets(file: &[u8], index: &[usize], x: usize, a: usize, i: usize) -> bool
 }
 
 // The value of effect i of action a.
-fn value_set(file: &[u8], index: &[usize], a: usize, i: usize) -> usize
+fn value_set(file: &[u8], index: &[u16], a: usize, i: usize) -> usize
     requires { ⌜ Indexed (now file) (now index) × (a < actionCount (taskOf (now file))) × (i < length (action (taskOf (now file)) a .effects)) ⌝ }
     ensures { λ r. ⌜ r ≡ pair (action (taskOf (now (file .entry))) a .effects) i .value ⌝ }
 {
@@ -65,7 +65,7 @@ fn value_set(file: &[u8], index: &[usize], a: usize, i: usize) -> usize
 }
 
 // The value that action a gives x, if any.
-fn given_to(file: &[u8], index: &[usize], x: usize, a: usize) -> usize
+fn given_to(file: &[u8], index: &[u16], x: usize, a: usize) -> usize
     requires { ⌜ Indexed (now file) (now index) × (a < actionCount (taskOf (now file))) ⌝ }
     ensures { λ r. ⌜ r ≡ givenTo (taskOf (now (file .entry))) x a ⌝ }
 {
@@ -88,7 +88,7 @@ fn note(given: &mut [usize], a: usize, value: usize)
 }
 
 // Notes the value that each action gives x.
-pub fn note_given(file: &[u8], index: &[usize], x: usize, given: &mut [usize])
+pub fn note_given(file: &[u8], index: &[u16], x: usize, given: &mut [usize])
     requires { ⌜ Indexed (now file) (now index) × (length (now given) ≡ maxActions) ⌝ }
     ensures { λ _. ⌜ Noted (taskOf (now (file .entry))) x (actionCount (taskOf (now (file .entry)))) (now (given .exit)) ⌝ }
 {
@@ -103,7 +103,7 @@ pub fn note_given(file: &[u8], index: &[usize], x: usize, given: &mut [usize])
 // The literal of action a, if it gives x the value v.
 fn put_supporter(
     file: &[u8],
-    index: &[usize],
+    index: &[u16],
     horizon: usize,
     s: usize,
     x: usize,
@@ -127,7 +127,7 @@ fn put_supporter(
 // The literals of all actions that give x the value v.
 fn put_supporters(
     file: &[u8],
-    index: &[usize],
+    index: &[u16],
     horizon: usize,
     s: usize,
     x: usize,
@@ -154,7 +154,7 @@ fn put_supporters(
 // The line of a value that stays at a step, by what was noted.
 pub fn put_noted(
     file: &[u8],
-    index: &[usize],
+    index: &[u16],
     horizon: usize,
     s: usize,
     x: usize,
@@ -178,7 +178,7 @@ pub fn put_noted(
 // The line of a value that stays at a step.
 pub fn put_stays(
     file: &[u8],
-    index: &[usize],
+    index: &[u16],
     horizon: usize,
     s: usize,
     x: usize,

@@ -51,7 +51,7 @@ fn put_pairs(
 // Two actions of a step, from a and b on.
 pub fn put_two_actions(
     file: &[u8],
-    index: &[usize],
+    index: &[u16],
     horizon: usize,
     s: usize,
     a: usize,
@@ -69,7 +69,7 @@ pub fn put_two_actions(
 // Two values of a variable at a step, from v and w on.
 pub fn put_two_values(
     file: &[u8],
-    index: &[usize],
+    index: &[u16],
     horizon: usize,
     s: usize,
     x: usize,

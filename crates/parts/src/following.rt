@@ -27,7 +27,7 @@ ghost use Rattle.parts.specs.Runs.{PutPart};
 // The values of x from v on, by what was noted.
 fn put_values(
     file: &[u8],
-    index: &[usize],
+    index: &[u16],
     horizon: usize,
     s: usize,
     x: usize,
@@ -56,7 +56,7 @@ fn put_values(
 // The values of a variable that stay at a step, from v on.
 pub fn put_stays(
     file: &[u8],
-    index: &[usize],
+    index: &[u16],
     horizon: usize,
     s: usize,
     x: usize,
@@ -73,7 +73,7 @@ pub fn put_stays(
 }
 
 // How many preconditions action a has.
-fn preconditions_of(file: &[u8], index: &[usize], a: usize) -> usize
+fn preconditions_of(file: &[u8], index: &[u16], a: usize) -> usize
     requires { ⌜ Indexed (now file) (now index) × (a < actionCount (taskOf (now file))) ⌝ }
     ensures { λ r. ⌜ r ≡ length (action (taskOf (now (file .entry))) a .preconditions) ⌝ }
 {
@@ -83,7 +83,7 @@ fn preconditions_of(file: &[u8], index: &[usize], a: usize) -> usize
 // The preconditions of an action at a step, from pair i on.
 pub fn put_preconditions(
     file: &[u8],
-    index: &[usize],
+    index: &[u16],
     horizon: usize,
     s: usize,
     a: usize,
@@ -108,7 +108,7 @@ pub fn put_preconditions(
 }
 
 // How many effects action a has.
-fn effects_of(file: &[u8], index: &[usize], a: usize) -> usize
+fn effects_of(file: &[u8], index: &[u16], a: usize) -> usize
     requires { ⌜ Indexed (now file) (now index) × (a < actionCount (taskOf (now file))) ⌝ }
     ensures { λ r. ⌜ r ≡ length (action (taskOf (now (file .entry))) a .effects) ⌝ }
 {
@@ -118,7 +118,7 @@ fn effects_of(file: &[u8], index: &[usize], a: usize) -> usize
 // The effects of an action at a step, from pair i on.
 pub fn put_effects(
     file: &[u8],
-    index: &[usize],
+    index: &[u16],
     horizon: usize,
     s: usize,
     a: usize,

@@ -24,7 +24,7 @@ ghost use Rattle.parts.specs.Runs.{PutPart};
 // From clause c on, the place of a value that stays: the other values too where any line surely fits.
 fn put_staying(
     file: &[u8],
-    index: &[usize],
+    index: &[u16],
     horizon: usize,
     c: usize,
     s: usize,
@@ -45,7 +45,7 @@ fn put_staying(
 // From the place of clause c on, where a line of two literals surely fits.
 fn put_from(
     file: &[u8],
-    index: &[usize],
+    index: &[u16],
     horizon: usize,
     c: usize,
     place: Place,
@@ -70,7 +70,7 @@ fn put_from(
 // Whole lines from clause c on: one or more, or none where the first does not fit.
 pub fn put_some(
     file: &[u8],
-    index: &[usize],
+    index: &[u16],
     horizon: usize,
     c: usize,
     out: &mut [u8],

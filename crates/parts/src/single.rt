@@ -27,7 +27,7 @@ pub struct Part {
 // The line of clause c, where it surely fits.
 pub fn put_line(
     file: &[u8],
-    index: &[usize],
+    index: &[u16],
     horizon: usize,
     c: usize,
     out: &mut [u8],
@@ -57,7 +57,7 @@ pub fn copy(text: &[u8], n: usize, out: &mut [u8], at: usize) -> usize
 // The line of clause c if it fits, made in lent room of its own and copied.
 fn put_in_turn(
     file: &[u8],
-    index: &[usize],
+    index: &[u16],
     horizon: usize,
     c: usize,
     line: &mut [u8],
@@ -79,7 +79,7 @@ fn put_in_turn(
 // The line of clause c if it fits.
 pub fn put_one(
     file: &[u8],
-    index: &[usize],
+    index: &[u16],
     horizon: usize,
     c: usize,
     out: &mut [u8],

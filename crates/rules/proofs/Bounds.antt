@@ -32,7 +32,7 @@ module _ (T : Task) (t : WellFormed T) where
   unfolding N
   N-bound k h = let l : S T + A T ≤ maxValues + maxActions = omega arith in omega (arith, mul-le-mul h l)
 
-  value-pairs : sumTo (n T) (λ x. pairsBelow (d T x)) ≤ (maxDomain - 1) * maxValues / 2
+  pub value-pairs : sumTo (n T) (λ x. pairsBelow (d T x)) ≤ (maxDomain - 1) * maxValues / 2
   value-pairs =
       let twice : sumTo (n T) (λ x. 2 * pairsBelow (d T x)) ≤ sumTo (n T) (λ x. (maxDomain - 1) * d T x) =
       sumTo-le (n T) _ _ (λ x l. pairs-twice (d T x) (maxDomain - 1) (t .domain-small x l)) in
@@ -41,10 +41,10 @@ module _ (T : Task) (t : WellFormed T) where
   action-pairs : pairsBelow (A T) ≤ pairsBelow maxActions
   action-pairs = omega (arith, pairs-twice (A T) (maxActions - 1) (t .actions-few))
 
-  all-preconditions : sumTo (A T) (λ a. length (action T a .preconditions)) ≤ maxActions * maxPairs
+  pub all-preconditions : sumTo (A T) (λ a. length (action T a .preconditions)) ≤ maxActions * maxPairs
   all-preconditions = omega (arith, sumTo-most (A T) maxPairs _ (λ a l. t .actions-fine a l .preconditions-few))
 
-  all-effects : sumTo (A T) (λ a. length (action T a .effects)) ≤ maxActions * maxPairs
+  pub all-effects : sumTo (A T) (λ a. length (action T a .effects)) ≤ maxActions * maxPairs
   all-effects = omega (arith, sumTo-most (A T) maxPairs _ (λ a l. t .actions-fine a l .effects-few))
 
   -- the eight counts, each at its own bound

@@ -113,6 +113,13 @@ unfolding sumTo
 sumTo-part zero w i h = absurd (omega arith)
 sumTo-part (suc m) w i h = ⊎-elim (λ l. omega (arith, sumTo-part m w i l)) (λ e. rw e (omega arith)) (below-suc i m h)
 
+-- a sum to which nothing more is added
+pub sumTo-flat : (w : ℕ → ℕ) (m k : ℕ) → m ≤ k → ((i : ℕ) → m ≤ i → w i ≡ 0) → sumTo k w ≡ sumTo m w
+unfolding sumTo
+sumTo-flat w m zero h z = let e : m ≡ 0 = omega arith in rw e
+sumTo-flat w m (suc k) h z =
+    ⊎-elim (λ l. omega (arith, sumTo-flat w m k (omega arith) z, z k (omega arith))) (λ l. let e : m ≡ suc k = omega arith in rw e) (below-or m (suc k))
+
 -- a number below a sum lies in one summand, at one place
 pub record Located (m : ℕ) (w : ℕ → ℕ) (i : ℕ) : Type 0 where
   pub part : ℕ

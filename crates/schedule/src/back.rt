@@ -22,7 +22,7 @@ ghost use Rattle.task.specs.Index.{Indexed};
 ghost use Rattle.schedule.specs.Written.{lent, fits};
 
 // The words that N bits need.
-fn needed_words(file: &[u8], index: &[usize], horizon: usize) -> usize
+fn needed_words(file: &[u8], index: &[u16], horizon: usize) -> usize
     requires { ⌜ Indexed (now file) (now index) × (horizon ≤ maxHorizon) ⌝ }
     ensures { λ r. ⌜ r ≡ wordsFor (N (problemOf (now (file .entry)) horizon)) ⌝ }
 {
@@ -32,7 +32,7 @@ fn needed_words(file: &[u8], index: &[usize], horizon: usize) -> usize
 // Enough is lent: words for both rows, and an entry for each step.
 fn enough(
     file: &[u8],
-    index: &[usize],
+    index: &[u16],
     horizon: usize,
     entries: usize,
     given: usize,
@@ -52,7 +52,7 @@ fn enough(
 }
 
 // All N variables given.
-fn give_all(file: &[u8], index: &[usize], horizon: usize, row: &mut [u64])
+fn give_all(file: &[u8], index: &[u16], horizon: usize, row: &mut [u64])
     requires { ⌜ Indexed (now file) (now index) × (horizon ≤ maxHorizon) × (wordsFor (N (problemOf (now file) horizon)) ≤ length (now row)) ⌝ }
     ensures { λ _. ⌜ now (row .exit) ≡ overRow (packed (replicate (N (problemOf (now (file .entry)) horizon)) true)) (now (row .entry)) ⌝ }
 {
@@ -61,7 +61,7 @@ fn give_all(file: &[u8], index: &[usize], horizon: usize, row: &mut [u64])
 }
 
 // Exactly the model's true variables true.
-fn give_truth(file: &[u8], index: &[usize], horizon: usize, entries: &[u32], row: &mut [u64])
+fn give_truth(file: &[u8], index: &[u16], horizon: usize, entries: &[u32], row: &mut [u64])
     requires { ⌜ Indexed (now file) (now index) × (horizon ≤ maxHorizon) × (horizon ≤ length (now entries)) × CarriedOut (taskOf (now file)) horizon (now entries)
         × (wordsFor (N (problemOf (now file) horizon)) ≤ length (now row)) ⌝ }
     ensures { λ _. ⌜ now (row .exit) ≡ overRow (packed (assignmentOf (problemOf (now (file .entry)) horizon) (now (entries .entry)))) (now (row .entry)) ⌝ }
@@ -73,7 +73,7 @@ fn give_truth(file: &[u8], index: &[usize], horizon: usize, entries: &[u32], row
 // The way back on an accepted file at a horizon up to 64.
 pub(crate) fn way_back_of(
     file: &[u8],
-    index: &[usize],
+    index: &[u16],
     horizon: usize,
     entries: &[u32],
     given: &mut [u64],

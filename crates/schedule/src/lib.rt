@@ -24,7 +24,7 @@ pub fn schedule_checked(file: &[u8], horizon: usize, entries: &[u32]) -> Verdict
     if entries.len() < horizon {
         return Verdict::Refused(Refusal::Room);
     }
-    let mut index = [0usize; INDEX_LENGTH];
+    let mut index = [0u16; INDEX_LENGTH];
     fill_index(file, &mut index);
     walking::schedule_verdict(file, &index, horizon, entries)
 }
@@ -44,7 +44,7 @@ pub fn way_back(
     let Verdict::Accepted = problem else {
         return problem;
     };
-    let mut index = [0usize; INDEX_LENGTH];
+    let mut index = [0u16; INDEX_LENGTH];
     fill_index(file, &mut index);
     back::way_back_of(file, &index, horizon, entries, given, truth)
 }

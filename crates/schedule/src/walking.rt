@@ -28,7 +28,7 @@ pub(crate) fn start_state(file: &[u8]) -> State
 }
 
 // The file from an action's first byte on.
-fn action_part<'a>(file: &'a [u8], index: &[usize], a: usize) -> &'a [u8]
+fn action_part<'a>(file: &'a [u8], index: &[u16], a: usize) -> &'a [u8]
     requires { ⌜ Indexed (now file) (now index) × (a < actionCount (taskOf (now file))) ⌝ }
     ensures { λ r. ⌜ action (taskOf (now (file .entry))) a ≡ actionIn (now r) ⌝ }
 {
@@ -61,7 +61,7 @@ fn first_over(entries: &[u32], horizon: usize, highest: usize) -> usize
 }
 
 // The action of an entry applies, if there is one.
-fn entry_applies(file: &[u8], index: &[usize], e: usize, values: &[u8]) -> bool
+fn entry_applies(file: &[u8], index: &[u16], e: usize, values: &[u8]) -> bool
     requires { ⌜ Indexed (now file) (now index) × (e ≤ actionCount (taskOf (now file))) ⌝ }
     ensures { λ r. ⌜ r ≡ entryApplies (taskOf (now (file .entry))) e (now (values .entry)) ⌝ }
 {
@@ -72,7 +72,7 @@ fn entry_applies(file: &[u8], index: &[usize], e: usize, values: &[u8]) -> bool
 }
 
 // The state after an entry.
-pub(crate) fn after_entry(file: &[u8], index: &[usize], e: usize, state: State) -> State
+pub(crate) fn after_entry(file: &[u8], index: &[u16], e: usize, state: State) -> State
     requires { ⌜ Indexed (now file) (now index) × (e ≤ actionCount (taskOf (now file))) ⌝ }
     ensures { λ r. ⌜ r .values ≡ afterEntry (taskOf (now (file .entry))) e (state .values) ⌝ }
 {
@@ -85,7 +85,7 @@ pub(crate) fn after_entry(file: &[u8], index: &[usize], e: usize, state: State) 
 // Refusals 20 to 22.
 pub(crate) fn schedule_verdict(
     file: &[u8],
-    index: &[usize],
+    index: &[u16],
     horizon: usize,
     entries: &[u32],
 ) -> Verdict

@@ -35,7 +35,7 @@ pub(crate) fn set_all(row: &mut [u64], m: usize)
 }
 
 // One value of a variable at a step.
-fn set_value(file: &[u8], index: &[usize], step: usize, x: usize, v: usize, row: &mut [u64])
+fn set_value(file: &[u8], index: &[u16], step: usize, x: usize, v: usize, row: &mut [u64])
     requires { ⌜ Indexed (now file) (now index) × (step ≤ maxHorizon) × (x < n (taskOf (now file))) × (v < d (taskOf (now file)) x) ⌝ }
     ensures { λ _. ⌜ now (row .exit) ≡ withVariable (now (row .entry)) (valueNumber (atAnyHorizon (now (file .entry))) step x v) true ⌝ }
 {
@@ -44,7 +44,7 @@ fn set_value(file: &[u8], index: &[usize], step: usize, x: usize, v: usize, row:
 }
 
 // The values of a state at a step.
-fn set_values(file: &[u8], index: &[usize], step: usize, values: &[u8], row: &mut [u64])
+fn set_values(file: &[u8], index: &[u16], step: usize, values: &[u8], row: &mut [u64])
     requires { ⌜ Indexed (now file) (now index) × (step ≤ maxHorizon) × Inside (taskOf (now file)) (now values) ⌝ }
     ensures { λ _. ⌜ now (row .exit) ≡ valuesSet (atAnyHorizon (now (file .entry))) step (now (values .entry)) (n (taskOf (now (file .entry)))) (now (row .entry)) ⌝ }
 {
@@ -57,7 +57,7 @@ fn set_values(file: &[u8], index: &[usize], step: usize, values: &[u8], row: &mu
 }
 
 // The action of an entry at a step.
-fn set_entry(file: &[u8], index: &[usize], step: usize, e: usize, row: &mut [u64])
+fn set_entry(file: &[u8], index: &[u16], step: usize, e: usize, row: &mut [u64])
     requires { ⌜ Indexed (now file) (now index) × (step ≤ maxHorizon) × (e ≤ actionCount (taskOf (now file))) ⌝ }
     ensures { λ _. ⌜ now (row .exit) ≡ entrySet (atAnyHorizon (now (file .entry))) step e (now (row .entry)) ⌝ }
 {
@@ -69,7 +69,7 @@ fn set_entry(file: &[u8], index: &[usize], step: usize, e: usize, row: &mut [u64
 }
 
 // All that is true at a step before the last: the values of its state, and its action.
-fn set_step(file: &[u8], index: &[usize], step: usize, e: usize, values: &[u8], row: &mut [u64])
+fn set_step(file: &[u8], index: &[u16], step: usize, e: usize, values: &[u8], row: &mut [u64])
     requires { ⌜ Indexed (now file) (now index) × (step ≤ maxHorizon) × (e ≤ actionCount (taskOf (now file))) × Inside (taskOf (now file)) (now values) ⌝ }
     ensures { λ _. ⌜ now (row .exit) ≡ stepSet (atAnyHorizon (now (file .entry))) step e (now (values .entry)) (now (row .entry)) ⌝ }
 {
@@ -78,13 +78,7 @@ fn set_step(file: &[u8], index: &[usize], step: usize, e: usize, values: &[u8], 
 }
 
 // All that is true in the model of a schedule that can be carried out.
-pub(crate) fn set_true(
-    file: &[u8],
-    index: &[usize],
-    horizon: usize,
-    entries: &[u32],
-    row: &mut [u64],
-)
+pub(crate) fn set_true(file: &[u8], index: &[u16], horizon: usize, entries: &[u32], row: &mut [u64])
     requires { ⌜ Indexed (now file) (now index) × (horizon ≤ maxHorizon) × (horizon ≤ length (now entries)) × CarriedOut (taskOf (now file)) horizon (now entries) ⌝ }
     ensures { λ _. ⌜ now (row .exit) ≡ allTrueSet (atAnyHorizon (now (file .entry))) (now (entries .entry)) horizon (now (row .entry)) ⌝ }
 {

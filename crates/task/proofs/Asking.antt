@@ -1,9 +1,8 @@
 -- What an accepted file and its index say of the task, by place.
 -- Assumes nothing.
 use mathlib.Core.Path.{_≡_, refl, sym, ap, _∙_}
-use mathlib.Core.Logic.{⊎-elim}
 use mathlib.Core.List.{List, [], _∷_, _++_}
-use Prim.Native.Nat.{ℕ, zero, suc, _+_, _*_, _≤_, _<_}
+use Prim.Native.Nat.{ℕ, _+_, _*_, _≤_, _<_}
 use native.Mathlib.Omega.{arith}
 use native.Mathlib.Nat.{mul-le-mul}
 use borrow.Author.Tests.{le-leb, lt-leb}
@@ -11,14 +10,13 @@ use mir.Syntax.{w64}
 use mir.Val.{Fits}
 use lib.ListN.{length, getD, length-append, List·getD-append, List·getD-eq-default}
 use lib.Seq.{getD-append-add}
-use Rattle.rules.specs.Counting.{sumTo, forEach}
+use Rattle.rules.specs.Counting.{forEach}
 use Rattle.rules.specs.Limits.{maxVariables, maxValues, maxActions, maxHorizon}
 use Rattle.rules.specs.Task.{Task, n, d, off, S, A, action}
 use Rattle.rules.specs.File.{bodyStart, body, taskOf}
 use Rattle.rules.specs.Numbering.{stride, valueNumber, actionNumber}
 use Rattle.rules.specs.Calls.{problemOf}
-use Rattle.rules.proofs.Bools.{below-or}
-use Rattle.rules.proofs.Counting.{sumTo-ext, length-forEach, getD-forEach}
+use Rattle.rules.proofs.Counting.{sumTo-ext, sumTo-flat, length-forEach, getD-forEach}
 use Rattle.rules.proofs.Numbering.{value-place}
 use Rattle.rules.proofs.Valid.{WellFormed}
 use Rattle.rules.proofs.Files.{accepted-well-formed}
@@ -27,13 +25,6 @@ use Rattle.task.specs.declared.numbering.NumberRead.the-variants.{Number
 use Rattle.task.specs.Numbers.{atAnyHorizon, numberRead}
 use Rattle.task.proofs.Bytes.{precondition-count, effect-count}
 use Rattle.task.proofs.Rows.{length-rows, wide-variable, wide-action}
-
--- a sum to which nothing more is added
-sum-flat : (w : ℕ → ℕ) (m k : ℕ) → m ≤ k → ((i : ℕ) → m ≤ i → w i ≡ 0) → sumTo k w ≡ sumTo m w
-unfolding sumTo
-sum-flat w m zero h z = let e : m ≡ 0 = omega arith in rw e
-sum-flat w m (suc k) h z =
-    ⊎-elim (λ l. omega (arith, sum-flat w m k (omega arith) z, z k (omega arith))) (λ l. let e : m ≡ suc k = omega arith in rw e) (below-or m (suc k))
 
 -- ---- the index, number by number
 
@@ -123,7 +114,7 @@ module _ (file index : List ℕ) (ix : Indexed file index) where
   pub values-asked : getD index (variableWidth * maxVariables) 0 ≡ S T
   values-asked =
       offset-asked maxVariables (omega arith)
-      ∙ sum-flat (d T) (n T) maxVariables (accepted-well-formed file (ix .accepted) .variables-few) (λ x h. List·getD-eq-default (T .sizes) 0 h)
+      ∙ sumTo-flat (d T) (n T) maxVariables (accepted-well-formed file (ix .accepted) .variables-few) (λ x h. List·getD-eq-default (T .sizes) 0 h)
 
   -- ---- the numbering
 

@@ -8,6 +8,7 @@ use Rattle.task.specs.declared.numbering.ValuePlace.{ValuePlace}
 use Rattle.task.specs.declared.numbering.ActionNumber.{ActionNumber}
 use Rattle.task.specs.declared.numbering.FormulaNumber.{FormulaNumber}
 use Rattle.task.specs.declared.numbering.NumberRead.{NumberRead}
+use Rattle.task.proofs.index.number_in.Reads as number-in
 use Rattle.task.proofs.index.offset.Reads as offset
 use Rattle.task.proofs.index.value_pairs_before.Reads as value-pairs-before
 use Rattle.task.proofs.index.values.Reads as values
@@ -48,6 +49,9 @@ same-number r s v p q = λ i. record { 0 = (p ∙ sym q) i }
 
 pub one-fill-index : (κs : _) (a : _) (r s : _) (x y : _) → fill-index.Post κs a r x → fill-index.Post κs a s y → now (x .1 .0) ≡ now (y .1 .0)
 one-fill-index κs a r s x y p q = p ∙ sym q
+
+pub one-number-in : (κs : _) (a : _) (r s : ℕ) (x : _) → number-in.Post κs a r x → number-in.Post κs a s x → r ≡ s
+one-number-in κs a r s x p q = p ∙ sym q
 
 pub one-offset : (κs : _) (a : _) (r s : ℕ) (x : _) → offset.Post κs a r x → offset.Post κs a s x → r ≡ s
 one-offset κs a r s x p q = p ∙ sym q

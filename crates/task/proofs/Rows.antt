@@ -14,10 +14,10 @@ use Rattle.rules.specs.Counting.{sumTo, forEach}
 use Rattle.rules.specs.Limits.{byteValues, maxVariables, maxActions, pairBytes, countBytes}
 use Rattle.rules.specs.Counts.{pairsBelow}
 use Rattle.rules.specs.File.{byte, bodyStart, body, actionBytes, actionIn, rests, taskOf}
-use Rattle.rules.proofs.Counting.{sumTo-const, sumTo-ext, length-forEach}
+use Rattle.rules.proofs.Counting.{sumTo-const, sumTo-ext, sumTo-part, length-forEach}
 use Rattle.rules.proofs.Loops.{sum-yet, sum-more}
 use Rattle.rules.proofs.Rests.{rest-zero, rest-suc, drop-past, Reached, reached-next, reached-all}
-use Rattle.task.specs.Index.{restAt, variableRow, actionRow, variableRows, actionRows, variableWidth, actionWidth, actionsAt, countAt, indexLength, indexOf}
+use Rattle.task.specs.Index.{restAt, variableRow, actionRow, variableRows, actionRows, variableWidth, actionWidth, actionsAt, countAt, indexLength, indexOf, indexValues, VariablesFit, ActionsFit}
 
 -- ---- written over the front of a table
 
@@ -67,13 +67,17 @@ pub wide-action : (start : ℕ) (actions : List ℕ) (a : ℕ) → length (actio
 unfolding actionRow
 wide-action start actions a = refl
 
+-- a sum that has grown by a summand is still below what the whole sum is below
+grown-few : (w : ℕ → ℕ) (m i sum v : ℕ) → i < m → sumTo m w < indexValues → sum ≡ sumTo i w → v ≡ w i → sum + v < indexValues
+grown-few w m i sum v l h es ev = omega (arith, sumTo-part m w i l)
+
 -- the rows of the first x variables are written
 pub record VariablesFilled (sizes table out : List ℕ) (x values pairs : ℕ) : Type 0 where
   pub rows : x ≤ variableRows
   pub room : length table ≡ variableWidth * variableRows
   pub room-still : length out ≡ variableWidth * variableRows
-  pub values-few : values ≤ byteValues * x
-  pub pairs-few : pairs ≤ byteValues * byteValues * x
+  pub values-few : values < indexValues
+  pub pairs-few : pairs < indexValues
   pub values-are : values ≡ sumTo x (byte sizes)
   pub pairs-are : pairs ≡ sumTo x (λ y. pairsBelow (byte sizes y))
   pub filled : out ≡ over table (forEach x (variableRow sizes))
@@ -98,16 +102,15 @@ module _ (sizes table : List ℕ) where
     row-written h =
         rw (f .values-are, f .pairs-are) (rows-more (variableRow sizes) variableWidth (wide-variable sizes) table out x (f .filled) (omega arith))
 
-    pub variables-more : (after : List ℕ) (size more : ℕ) → x ≤ maxVariables → after ≡ sets out (variableWidth * x) (values ∷ pairs ∷ [])
-        → size ≡ byte sizes x → size < byteValues → more ≡ pairsBelow size → more < byteValues * byteValues
-        → VariablesFilled sizes table after (x + 1) (values + size) (pairs + more)
-    variables-more after size more l ea es bs em bm =
+    pub variables-more : VariablesFit sizes → (after : List ℕ) (size more : ℕ) → x ≤ maxVariables → after ≡ sets out (variableWidth * x) (values ∷ pairs ∷ [])
+        → size ≡ byte sizes x → more ≡ pairsBelow size → VariablesFilled sizes table after (x + 1) (values + size) (pairs + more)
+    variables-more fit after size more l ea es em =
         record {
           rows = omega arith;
           room = f .room;
           room-still = ap length ea ∙ length-sets out (variableWidth * x) (values ∷ pairs ∷ []) ∙ f .room-still;
-          values-few = omega arith;
-          pairs-few = omega arith;
+          values-few = grown-few (byte sizes) variableRows x values size (omega arith) (fit .values-fit) (f .values-are) es;
+          pairs-few = grown-few (λ y. pairsBelow (byte sizes y)) variableRows x pairs more (omega arith) (fit .pairs-fit) (f .pairs-are) (em ∙ ap pairsBelow es);
           values-are = sum-more (byte sizes) x values size (f .values-are) es;
           pairs-are = sum-more (λ y. pairsBelow (byte sizes y)) x pairs more (f .pairs-are) (em ∙ ap pairsBelow es);
           filled = ea ∙ row-written (omega arith);
@@ -189,8 +192,8 @@ pub record ActionsFilled (start : ℕ) (s table out : List ℕ) (a at preconditi
   pub within : at ≤ length s
   pub room : length table ≡ actionWidth * actionRows
   pub room-still : length out ≡ actionWidth * actionRows
-  pub preconditions-few : preconditions ≤ byteValues * a
-  pub effects-few : effects ≤ byteValues * a
+  pub preconditions-few : preconditions < indexValues
+  pub effects-few : effects < indexValues
   pub reached : restAt s a ≡ drop at s
   pub preconditions-are : preconditions ≡ sumTo a (λ b. byte (restAt s b) 0)
   pub effects-are : effects ≡ sumTo a (λ b. byte (restAt s b) 1)
@@ -221,22 +224,23 @@ module _ (start : ℕ) (s table : List ℕ) where
         rw (f .preconditions-are, f .effects-are, place)
         (rows-more (actionRow start s) actionWidth (wide-action start s) table out a (f .filled) (omega arith))
 
-    pub actions-more : (after : List ℕ) (p e next : ℕ) → a ≤ maxActions
+    pub actions-more : ActionsFit s → (after : List ℕ) (p e next : ℕ) → a ≤ maxActions
         → after ≡ sets out (actionWidth * a) ((start + at) ∷ preconditions ∷ effects ∷ [])
-        → p ≡ byte s at → p < byteValues → e ≡ byte s (at + 1) → e < byteValues
-        → next ≤ length s → drop next s ≡ drop (actionBytes (drop at s)) (drop at s)
+        → p ≡ byte s at → e ≡ byte s (at + 1) → next ≤ length s → drop next s ≡ drop (actionBytes (drop at s)) (drop at s)
         → ActionsFilled start s table after (a + 1) next (preconditions + p) (effects + e)
-    actions-more after p e next l ea ep bp ee be ln en =
+    actions-more fit after p e next l ea ep ee ln en =
+        let pre : p ≡ byte (restAt s a) 0 = preconditions-here s at a (f .reached) p ep in
+        let eff : e ≡ byte (restAt s a) 1 = effects-here s at a (f .reached) e ee in
         record {
           rows = omega arith;
           within = ln;
           room = f .room;
           room-still = ap length ea ∙ length-sets out (actionWidth * a) ((start + at) ∷ preconditions ∷ effects ∷ []) ∙ f .room-still;
-          preconditions-few = omega arith;
-          effects-few = omega arith;
+          preconditions-few = grown-few (λ b. byte (restAt s b) 0) actionRows a preconditions p (omega arith) (fit .preconditions-fit) (f .preconditions-are) pre;
+          effects-few = grown-few (λ b. byte (restAt s b) 1) actionRows a effects e (omega arith) (fit .effects-fit) (f .effects-are) eff;
           reached = rest-next s at a (f .reached) next en;
-          preconditions-are = sum-more (λ b. byte (restAt s b) 0) a preconditions p (f .preconditions-are) (preconditions-here s at a (f .reached) p ep);
-          effects-are = sum-more (λ b. byte (restAt s b) 1) a effects e (f .effects-are) (effects-here s at a (f .reached) e ee);
+          preconditions-are = sum-more (λ b. byte (restAt s b) 0) a preconditions p (f .preconditions-are) pre;
+          effects-are = sum-more (λ b. byte (restAt s b) 1) a effects e (f .effects-are) eff;
           filled = ea ∙ action-written (omega arith);
         }
 

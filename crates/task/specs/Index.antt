@@ -1,11 +1,11 @@
 -- The index of a file: numbers that are laid out once, so that each later question is answered by one look.
 -- Assumes nothing.
-use Prim.Native.Nat.{ℕ, suc, _+_, _-_, _*_}
+use Prim.Native.Nat.{ℕ, suc, _+_, _-_, _*_, _<_}
 use mathlib.Core.Path.{_≡_}
 use mathlib.Core.List.{List, [], _∷_, _++_}
 use lib.ListN.{length, getD}
 use Rattle.rules.specs.Counting.{sumTo, forEach}
-use Rattle.rules.specs.Limits.{maxVariables, maxActions}
+use Rattle.rules.specs.Limits.{byteValues, maxVariables, maxActions}
 use Rattle.rules.specs.Counts.{pairsBelow}
 use Rattle.rules.specs.Task.{Task, d, A, action}
 use Rattle.rules.specs.File.{byte, bodyStart, body, rests, taskOf, fileVerdict}
@@ -59,6 +59,19 @@ indexOf file =
 -- the place in the file of action a's first byte; from A on the file's end
 unfoldable pub actionPlace : List ℕ → ℕ → ℕ
 actionPlace file a = bodyStart file 3 + (length (body file 3) - length (restAt (body file 3) a))
+
+-- how many values a number of the index has: it has two bytes
+abbrev pub indexValues : ℕ
+indexValues = byteValues * byteValues
+
+-- the sums over all rows, which are the largest, are numbers of an index
+pub record VariablesFit (sizes : List ℕ) : Type 0 where
+  pub values-fit : sumTo variableRows (byte sizes) < indexValues
+  pub pairs-fit : sumTo variableRows (λ y. pairsBelow (byte sizes y)) < indexValues
+
+pub record ActionsFit (actions : List ℕ) : Type 0 where
+  pub preconditions-fit : sumTo actionRows (λ b. byte (restAt actions b) 0) < indexValues
+  pub effects-fit : sumTo actionRows (λ b. byte (restAt actions b) 1) < indexValues
 
 -- ---- what else stands in the rows, by the task's letters
 

@@ -77,7 +77,7 @@ pub fn goal_pair(file: &[u8], i: usize) -> ValuePlace
 }
 
 // The place of an action's first byte.
-fn first_byte(file: &[u8], index: &[usize], a: ActionNumber) -> usize
+fn first_byte(file: &[u8], index: &[u16], a: ActionNumber) -> usize
     requires { ⌜ Indexed (now file) (now index) × (a .0 < actionCount (taskOf (now file))) ⌝ }
     ensures { λ r. ⌜ r ≡ actionPlace (now (file .entry)) (a .0) ⌝ }
 {
@@ -85,7 +85,7 @@ fn first_byte(file: &[u8], index: &[usize], a: ActionNumber) -> usize
 }
 
 // How many preconditions an action has.
-pub fn precondition_count(file: &[u8], index: &[usize], a: ActionNumber) -> usize
+pub fn precondition_count(file: &[u8], index: &[u16], a: ActionNumber) -> usize
     requires { ⌜ Indexed (now file) (now index) × (a .0 < actionCount (taskOf (now file))) ⌝ }
     ensures { λ r. ⌜ r ≡ length (action (taskOf (now (file .entry))) (a .0) .preconditions) ⌝ }
 {
@@ -93,7 +93,7 @@ pub fn precondition_count(file: &[u8], index: &[usize], a: ActionNumber) -> usiz
 }
 
 // How many effects an action has.
-pub fn effect_count(file: &[u8], index: &[usize], a: ActionNumber) -> usize
+pub fn effect_count(file: &[u8], index: &[u16], a: ActionNumber) -> usize
     requires { ⌜ Indexed (now file) (now index) × (a .0 < actionCount (taskOf (now file))) ⌝ }
     ensures { λ r. ⌜ r ≡ length (action (taskOf (now (file .entry))) (a .0) .effects) ⌝ }
 {
@@ -101,7 +101,7 @@ pub fn effect_count(file: &[u8], index: &[usize], a: ActionNumber) -> usize
 }
 
 // Precondition i of an action.
-pub fn precondition(file: &[u8], index: &[usize], a: ActionNumber, i: usize) -> ValuePlace
+pub fn precondition(file: &[u8], index: &[u16], a: ActionNumber, i: usize) -> ValuePlace
     requires { ⌜ Indexed (now file) (now index) × (a .0 < actionCount (taskOf (now file))) × (i < length (action (taskOf (now file)) (a .0) .preconditions)) ⌝ }
     ensures { λ r. ⌜ (r .0 ≡ pair (action (taskOf (now (file .entry))) (a .0) .preconditions) i .variable)
         × (r .1 ≡ pair (action (taskOf (now (file .entry))) (a .0) .preconditions) i .value) ⌝ }
@@ -110,7 +110,7 @@ pub fn precondition(file: &[u8], index: &[usize], a: ActionNumber, i: usize) -> 
 }
 
 // Effect i of an action.
-pub fn effect(file: &[u8], index: &[usize], a: ActionNumber, i: usize) -> ValuePlace
+pub fn effect(file: &[u8], index: &[u16], a: ActionNumber, i: usize) -> ValuePlace
     requires { ⌜ Indexed (now file) (now index) × (a .0 < actionCount (taskOf (now file))) × (i < length (action (taskOf (now file)) (a .0) .effects)) ⌝ }
     ensures { λ r. ⌜ (r .0 ≡ pair (action (taskOf (now (file .entry))) (a .0) .effects) i .variable)
         × (r .1 ≡ pair (action (taskOf (now (file .entry))) (a .0) .effects) i .value) ⌝ }

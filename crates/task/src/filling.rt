@@ -20,7 +20,7 @@ ghost use Rattle.rules.specs.Limits.{byteValues, maxFile};
 ghost use Rattle.rules.specs.Counts.{pairsBelow};
 ghost use Rattle.rules.specs.File.{byte, actionBytes, rests, fileVerdict};
 ghost use Rattle.rules.specs.declared.Verdict.the-variants.{Accepted};
-ghost use Rattle.task.specs.Index.{variableRow, actionRow, variableRows, actionRows, variableWidth, actionWidth, actionsAt, indexLength, indexOf};
+ghost use Rattle.task.specs.Index.{variableRow, actionRow, variableRows, actionRows, variableWidth, actionWidth, actionsAt, indexLength, indexOf, VariablesFit, ActionsFit};
 
 // The byte at place i, 0 past the end.
 fn byte_if_any(s: &[u8], i: usize) -> usize
@@ -43,7 +43,7 @@ fn pairs_below(m: usize) -> usize
     m * (m - 1) / 2
 }
 
-fn put_variable(out: &mut [usize], at: usize, values: usize, pairs: usize)
+fn put_variable(out: &mut [u16], at: usize, values: u16, pairs: u16)
     requires { ⌜ at + variableWidth ≤ length (now out) ⌝ }
     ensures { λ _. ⌜ now (out .exit) ≡ sets (now (out .entry)) at (values ∷ pairs ∷ []) ⌝ }
 {
@@ -51,7 +51,7 @@ fn put_variable(out: &mut [usize], at: usize, values: usize, pairs: usize)
     out[at + 1] = pairs;
 }
 
-fn put_action(out: &mut [usize], at: usize, place: usize, preconditions: usize, effects: usize)
+fn put_action(out: &mut [u16], at: usize, place: u16, preconditions: u16, effects: u16)
     requires { ⌜ at + actionWidth ≤ length (now out) ⌝ }
     ensures { λ _. ⌜ now (out .exit) ≡ sets (now (out .entry)) at (place ∷ preconditions ∷ effects ∷ []) ⌝ }
 {
@@ -61,15 +61,15 @@ fn put_action(out: &mut [usize], at: usize, place: usize, preconditions: usize, 
 }
 
 // The rows of the variables.
-fn fill_variables(sizes: &[u8], out: &mut [usize])
-    requires { ⌜ length (now out) ≡ variableWidth * variableRows ⌝ }
+fn fill_variables(sizes: &[u8], out: &mut [u16])
+    requires { ⌜ VariablesFit (now sizes) × (length (now out) ≡ variableWidth * variableRows) ⌝ }
     ensures { λ _. ⌜ now (out .exit) ≡ forEach variableRows (variableRow (now (sizes .entry))) ⌝ }
 {
     let mut x = 0;
     let mut values = 0;
     let mut pairs = 0;
     while x <= MAX_VARIABLES {
-        put_variable(out, VARIABLE_WIDTH * x, values, pairs);
+        put_variable(out, VARIABLE_WIDTH * x, values as u16, pairs as u16);
         let size = byte_if_any(sizes, x);
         values += size;
         pairs += pairs_below(size);
@@ -105,8 +105,8 @@ fn count_actions(actions: &[u8]) -> usize
 }
 
 // The rows of the actions; the action body begins at place `start` of the file.
-fn fill_actions(start: usize, actions: &[u8], out: &mut [usize])
-    requires { ⌜ (start + length (now actions) ≤ maxFile) × (length (now out) ≡ actionWidth * actionRows) ⌝ }
+fn fill_actions(start: usize, actions: &[u8], out: &mut [u16])
+    requires { ⌜ ActionsFit (now actions) × (start + length (now actions) ≤ maxFile) × (length (now out) ≡ actionWidth * actionRows) ⌝ }
     ensures { λ _. ⌜ now (out .exit) ≡ forEach actionRows (actionRow start (now (actions .entry))) ⌝ }
 {
     let mut a = 0;
@@ -114,7 +114,13 @@ fn fill_actions(start: usize, actions: &[u8], out: &mut [usize])
     let mut preconditions = 0;
     let mut effects = 0;
     while a <= MAX_ACTIONS {
-        put_action(out, ACTION_WIDTH * a, start + at, preconditions, effects);
+        put_action(
+            out,
+            ACTION_WIDTH * a,
+            (start + at) as u16,
+            preconditions as u16,
+            effects as u16,
+        );
         preconditions += byte_if_any(actions, at);
         effects += byte_if_any(actions, at + 1);
         at = next_place(actions, at);
@@ -122,15 +128,15 @@ fn fill_actions(start: usize, actions: &[u8], out: &mut [usize])
     }
 }
 
-fn put_variables(sizes: &[u8], index: &mut [usize])
-    requires { ⌜ length (now index) ≡ indexLength ⌝ }
+fn put_variables(sizes: &[u8], index: &mut [u16])
+    requires { ⌜ VariablesFit (now sizes) × (length (now index) ≡ indexLength) ⌝ }
     ensures { λ _. ⌜ now (index .exit) ≡ forEach variableRows (variableRow (now (sizes .entry))) ++ drop actionsAt (now (index .entry)) ⌝ }
 {
     fill_variables(sizes, &mut index[..ACTIONS_AT]);
 }
 
-fn put_actions(start: usize, actions: &[u8], index: &mut [usize])
-    requires { ⌜ (start + length (now actions) ≤ maxFile) × (length (now index) ≡ indexLength) ⌝ }
+fn put_actions(start: usize, actions: &[u8], index: &mut [u16])
+    requires { ⌜ ActionsFit (now actions) × (start + length (now actions) ≤ maxFile) × (length (now index) ≡ indexLength) ⌝ }
     ensures { λ _. ⌜ now (index .exit)
         ≡ take actionsAt (now (index .entry))
         ++ (forEach actionRows (actionRow start (now (actions .entry))) ++ drop (actionWidth * actionRows) (drop actionsAt (now (index .entry)))) ⌝ }
@@ -139,12 +145,12 @@ fn put_actions(start: usize, actions: &[u8], index: &mut [usize])
 }
 
 // The index of an accepted file.
-pub fn fill_index(file: &[u8], index: &mut [usize])
+pub fn fill_index(file: &[u8], index: &mut [u16])
     requires { ⌜ (fileVerdict (now file) ≡ Accepted) × (length (now index) ≡ indexLength) ⌝ }
     ensures { λ _. ⌜ now (index .exit) ≡ indexOf (now (file .entry)) ⌝ }
 {
     let actions = row_body(file, 3);
     put_variables(row_body(file, 0), index);
     put_actions(body_start(file, 3), actions, index);
-    index[COUNT_AT] = count_actions(actions);
+    index[COUNT_AT] = count_actions(actions) as u16;
 }

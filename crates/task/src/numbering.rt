@@ -66,7 +66,7 @@ fn numbered(step: usize, width: usize, place: usize) -> FormulaNumber
 }
 
 // Value v of variable x at a step, from 0; at every horizon the same.
-pub fn value_number(file: &[u8], index: &[usize], step: usize, place: ValuePlace) -> FormulaNumber
+pub fn value_number(file: &[u8], index: &[u16], step: usize, place: ValuePlace) -> FormulaNumber
     requires { ⌜ Indexed (now file) (now index) × (step ≤ maxHorizon) × (place .0 < n (taskOf (now file))) × (place .1 < d (taskOf (now file)) (place .0)) ⌝ }
     ensures { λ r. ⌜ r .0 ≡ valueNumber (atAnyHorizon (now (file .entry))) step (place .0) (place .1) ⌝ }
 {
@@ -78,12 +78,7 @@ pub fn value_number(file: &[u8], index: &[usize], step: usize, place: ValuePlace
 }
 
 // Action a at a step, from 0; at every horizon the same.
-pub fn action_number(
-    file: &[u8],
-    index: &[usize],
-    step: usize,
-    action: ActionNumber,
-) -> FormulaNumber
+pub fn action_number(file: &[u8], index: &[u16], step: usize, action: ActionNumber) -> FormulaNumber
     requires { ⌜ Indexed (now file) (now index) × (step ≤ maxHorizon) × (action .0 < actionCount (taskOf (now file))) ⌝ }
     ensures { λ r. ⌜ r .0 ≡ actionNumber (atAnyHorizon (now (file .entry))) step (action .0) ⌝ }
 {

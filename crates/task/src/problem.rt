@@ -28,7 +28,7 @@ pub fn problem_verdict(file: &[u8], horizon: usize) -> Verdict
 }
 
 // N, of an accepted file with its index.
-pub fn count_variables(file: &[u8], index: &[usize], horizon: usize) -> usize
+pub fn count_variables(file: &[u8], index: &[u16], horizon: usize) -> usize
     requires { ⌜ Indexed (now file) (now index) × (horizon ≤ maxHorizon) ⌝ }
     ensures { λ r. ⌜ r ≡ N (problemOf (now (file .entry)) horizon) ⌝ }
 {

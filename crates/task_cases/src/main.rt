@@ -66,7 +66,7 @@ fn print_place(place: ValuePlace) {
     print(b"=", task::numbering::value_of(place));
 }
 
-fn print_start_value(file: &[u8], index: &[usize], x: usize)
+fn print_start_value(file: &[u8], index: &[u16], x: usize)
     requires { ⌜ Indexed (now file) (now index) × (x < n (taskOf (now file))) ⌝ }
 {
     let place = task::numbering::value_place(x, task::asked::start_value(file, x));
@@ -77,7 +77,7 @@ fn print_start_value(file: &[u8], index: &[usize], x: usize)
     );
 }
 
-fn print_start(file: &[u8], index: &[usize])
+fn print_start(file: &[u8], index: &[u16])
     requires { ⌜ Indexed (now file) (now index) ⌝ }
 {
     io::write_all(1, b"; start");
@@ -101,7 +101,7 @@ fn print_goal(file: &[u8])
     }
 }
 
-fn print_preconditions(file: &[u8], index: &[usize], a: ActionNumber)
+fn print_preconditions(file: &[u8], index: &[u16], a: ActionNumber)
     requires { ⌜ Indexed (now file) (now index) × (a .0 < actionCount (taskOf (now file))) ⌝ }
 {
     io::write_all(1, b" needs");
@@ -113,7 +113,7 @@ fn print_preconditions(file: &[u8], index: &[usize], a: ActionNumber)
     }
 }
 
-fn print_effects(file: &[u8], index: &[usize], a: ActionNumber)
+fn print_effects(file: &[u8], index: &[u16], a: ActionNumber)
     requires { ⌜ Indexed (now file) (now index) × (a .0 < actionCount (taskOf (now file))) ⌝ }
 {
     io::write_all(1, b" sets");
@@ -125,7 +125,7 @@ fn print_effects(file: &[u8], index: &[usize], a: ActionNumber)
     }
 }
 
-fn print_action(file: &[u8], index: &[usize], a: usize)
+fn print_action(file: &[u8], index: &[u16], a: usize)
     requires { ⌜ Indexed (now file) (now index) × (a < actionCount (taskOf (now file))) ⌝ }
 {
     let action = task::numbering::nth_action(a);
@@ -137,7 +137,7 @@ fn print_action(file: &[u8], index: &[usize], a: usize)
     print_effects(file, index, action);
 }
 
-fn print_actions(file: &[u8], index: &[usize])
+fn print_actions(file: &[u8], index: &[u16])
     requires { ⌜ Indexed (now file) (now index) ⌝ }
 {
     let actions = task::index::actions(file, index);
@@ -151,7 +151,7 @@ fn print_actions(file: &[u8], index: &[usize])
     }
 }
 
-fn print_task(file: &[u8], index: &[usize])
+fn print_task(file: &[u8], index: &[u16])
     requires { ⌜ Indexed (now file) (now index) ⌝ }
 {
     let actions = task::index::actions(file, index);
@@ -180,7 +180,7 @@ fn print_answers(file: &[u8]) {
     let Verdict::Accepted = verdict else {
         return;
     };
-    let mut index = [0; INDEX_LENGTH];
+    let mut index = [0u16; INDEX_LENGTH];
     task::filling::fill_index(file, &mut index);
     print_task(file, &index);
 }

@@ -25,7 +25,7 @@ pub enum TextAnswer {
 }
 
 // The same as `header`, of an accepted file with its index.
-pub fn header_indexed(file: &[u8], index: &[usize], horizon: usize, out: &mut [u8]) -> TextAnswer
+pub fn header_indexed(file: &[u8], index: &[u16], horizon: usize, out: &mut [u8]) -> TextAnswer
     requires { ⌜ Indexed (now file) (now index) × (horizon ≤ maxHorizon) ⌝ }
     ensures { λ r. ⌜ (r ≡ headerAnswer (now (file .entry)) horizon (length (now (out .entry))))
         × (now (out .exit) ≡ headerAfter (now (file .entry)) horizon (now (out .entry))) ⌝ }
@@ -48,7 +48,7 @@ pub fn header(file: &[u8], horizon: usize, out: &mut [u8]) -> TextAnswer
     if let Verdict::Refused(why) = verdict {
         return TextAnswer::Refused(why);
     }
-    let mut index = [0usize; INDEX_LENGTH];
+    let mut index = [0u16; INDEX_LENGTH];
     fill_index(file, &mut index);
     header_indexed(file, &index, horizon, out)
 }
@@ -56,7 +56,7 @@ pub fn header(file: &[u8], horizon: usize, out: &mut [u8]) -> TextAnswer
 // The same as `clause_line`, of an accepted file with its index.
 pub fn clause_line_indexed(
     file: &[u8],
-    index: &[usize],
+    index: &[u16],
     horizon: usize,
     c: usize,
     out: &mut [u8],
@@ -87,7 +87,7 @@ pub fn clause_line(file: &[u8], horizon: usize, c: usize, out: &mut [u8]) -> Tex
     if let Verdict::Refused(why) = verdict {
         return TextAnswer::Refused(why);
     }
-    let mut index = [0usize; INDEX_LENGTH];
+    let mut index = [0u16; INDEX_LENGTH];
     fill_index(file, &mut index);
     clause_line_indexed(file, &index, horizon, c, out)
 }
@@ -95,7 +95,7 @@ pub fn clause_line(file: &[u8], horizon: usize, c: usize, out: &mut [u8]) -> Tex
 // The same as `lines`, of an accepted file with its index.
 pub fn lines_indexed(
     file: &[u8],
-    index: &[usize],
+    index: &[u16],
     horizon: usize,
     c: usize,
     out: &mut [u8],
@@ -127,7 +127,7 @@ pub fn lines(file: &[u8], horizon: usize, c: usize, out: &mut [u8]) -> TextAnswe
     if let Verdict::Refused(why) = verdict {
         return TextAnswer::Refused(why);
     }
-    let mut index = [0usize; INDEX_LENGTH];
+    let mut index = [0u16; INDEX_LENGTH];
     fill_index(file, &mut index);
     lines_indexed(file, &index, horizon, c, out)
 }

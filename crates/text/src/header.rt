@@ -55,7 +55,7 @@ fn put_counts(out: &mut [u8], variables: usize, clauses: usize) -> usize
 }
 
 // The header of a file at a horizon.
-pub fn put_header(file: &[u8], index: &[usize], horizon: usize, out: &mut [u8]) -> usize
+pub fn put_header(file: &[u8], index: &[u16], horizon: usize, out: &mut [u8]) -> usize
     requires { ⌜ Indexed (now file) (now index) × (horizon ≤ maxHorizon) × (headerRoom ≤ length (now out)) ⌝ }
     ensures written { λ end. ⌜ Wrote (now (out .entry)) 0 (headerLine (problemOf (now (file .entry)) horizon)) (now (out .exit)) end ⌝ }
     ensures within { λ end. ⌜ end ≤ headerRoom ⌝ }

@@ -19,7 +19,7 @@ pub struct Run {
 // As many whole lines as fit, from clause c on.
 pub fn put_run(
     file: &[u8],
-    index: &[usize],
+    index: &[u16],
     horizon: usize,
     all: usize,
     c: usize,

@@ -21,6 +21,8 @@ fill-variables-spec =
     μ-loop
     (λ c. search (needs, variables-none))
     (λ c. search needs)
+    (λ c. search needs)
+    (λ c. search needs)
     (λ c κs. search needs)
     (λ c κs. search needs)
     (λ c. search needs)

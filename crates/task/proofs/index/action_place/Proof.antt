@@ -1,6 +1,7 @@
 -- `action_place` meets its contract.
 -- Assumes nothing.
 use borrow.Author.Needs.{needs}
+use mathlib.Core.Path.{_∙_}
 use native.Mathlib.Omega.{arith}
 use Rattle.task.proofs.Asking.{index-long, place-asked}
 use Rattle.task.proofs.index.action_place.Statement.{statement}
@@ -12,6 +13,5 @@ action-place-spec =
     (tie.spec
     (λ c. search needs)
     (λ c. search needs)
-    (λ c. search needs)
-    (λ c. omega (arith, index-long))
-    (λ c. search (needs, place-asked)))
+    (λ c κs. omega (arith, index-long))
+    (λ c. search (needs, _∙_, place-asked)))

@@ -1,6 +1,7 @@
 -- `effects_before` meets its contract.
 -- Assumes nothing.
 use borrow.Author.Needs.{needs}
+use mathlib.Core.Path.{_∙_}
 use native.Mathlib.Omega.{arith}
 use Rattle.task.proofs.Asking.{index-long, effects-asked}
 use Rattle.task.proofs.index.effects_before.Statement.{statement}
@@ -13,6 +14,5 @@ effects-before-spec =
     (λ c. search needs)
     (λ c. search needs)
     (λ c. search needs)
-    (λ c. search needs)
-    (λ c. omega (arith, index-long))
-    (λ c. search (needs, effects-asked)))
+    (λ c κs. omega (arith, index-long))
+    (λ c. search (needs, _∙_, effects-asked)))

@@ -1,6 +1,7 @@
 -- `offset` meets its contract.
 -- Assumes nothing.
 use borrow.Author.Needs.{needs}
+use mathlib.Core.Path.{_∙_}
 use native.Mathlib.Omega.{arith}
 use Rattle.task.proofs.Asking.{index-long, offset-asked}
 use Rattle.task.proofs.index.offset.Statement.{statement}
@@ -11,6 +12,5 @@ offset-spec =
     tie.close
     (tie.spec
     (λ c. search needs)
-    (λ c. search needs)
-    (λ c. omega (arith, index-long))
-    (λ c. search (needs, offset-asked)))
+    (λ c κs. omega (arith, index-long))
+    (λ c. search (needs, _∙_, offset-asked)))

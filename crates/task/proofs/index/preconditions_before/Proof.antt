@@ -1,6 +1,7 @@
 -- `preconditions_before` meets its contract.
 -- Assumes nothing.
 use borrow.Author.Needs.{needs}
+use mathlib.Core.Path.{_∙_}
 use native.Mathlib.Omega.{arith}
 use Rattle.task.proofs.Asking.{index-long, preconditions-asked}
 use Rattle.task.proofs.index.preconditions_before.Statement.{statement}
@@ -13,6 +14,5 @@ preconditions-before-spec =
     (λ c. search needs)
     (λ c. search needs)
     (λ c. search needs)
-    (λ c. search needs)
-    (λ c. omega (arith, index-long))
-    (λ c. search (needs, preconditions-asked)))
+    (λ c κs. omega (arith, index-long))
+    (λ c. search (needs, _∙_, preconditions-asked)))

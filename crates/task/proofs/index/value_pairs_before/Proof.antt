@@ -1,6 +1,7 @@
 -- `value_pairs_before` meets its contract.
 -- Assumes nothing.
 use borrow.Author.Needs.{needs}
+use mathlib.Core.Path.{_∙_}
 use native.Mathlib.Omega.{arith}
 use Rattle.task.proofs.Asking.{index-long, value-pairs-asked}
 use Rattle.task.proofs.index.value_pairs_before.Statement.{statement}
@@ -12,6 +13,5 @@ value-pairs-before-spec =
     (tie.spec
     (λ c. search needs)
     (λ c. search needs)
-    (λ c. search needs)
-    (λ c. omega (arith, index-long))
-    (λ c. search (needs, value-pairs-asked)))
+    (λ c κs. omega (arith, index-long))
+    (λ c. search (needs, _∙_, value-pairs-asked)))

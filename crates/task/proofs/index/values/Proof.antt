@@ -1,6 +1,7 @@
 -- `values` meets its contract.
 -- Assumes nothing.
 use borrow.Author.Needs.{needs}
+use mathlib.Core.Path.{_∙_}
 use native.Mathlib.Omega.{arith}
 use Rattle.task.proofs.Asking.{index-long, values-asked}
 use Rattle.task.proofs.index.values.Statement.{statement}
@@ -11,6 +12,5 @@ values-spec =
     tie.close
     (tie.spec
     (λ c. search needs)
-    (λ c. search needs)
-    (λ c. omega (arith, index-long))
-    (λ c. search (needs, values-asked)))
+    (λ c κs. omega (arith, index-long))
+    (λ c. search (needs, _∙_, values-asked)))
