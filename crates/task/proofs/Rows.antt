@@ -2,16 +2,16 @@
 -- Assumes nothing.
 use mathlib.Core.Path.{_≡_, refl, sym, ap, _∙_}
 use mathlib.Core.List.{List, map, [], _∷_, _++_, append-nil, append-assoc}
-use Prim.Native.Nat.{ℕ, suc, _+_, _-_, _*_, _/_, _≤_, _<_}
+use Prim.Native.Nat.{ℕ, suc, _+_, _-_, _*_, _≤_, _<_}
 use native.Mathlib.Omega.{arith}
 use native.Mathlib.Numerals.{add-one}
-use native.Mathlib.Nat.{mul-comm, mul-le-mul}
+use native.Mathlib.Nat.{mul-comm}
 use mir.Syntax.{w64}
 use mir.Val.{Fits}
 use lib.ListN.{length, getD, set, take, drop, length-append, length-drop, length-map, List·getD-eq-default}
 use lib.Seq.{length-take-le, drop-cons, set-at, take-at, drop-at, sets, sets-eq, length-sets, take-append-seam, drop-append-add, drop-drop, drop-length, getD-drop}
 use Rattle.rules.specs.Counting.{sumTo, forEach}
-use Rattle.rules.specs.Limits.{byteValues, maxVariables, maxActions, pairBytes, countBytes}
+use Rattle.rules.specs.Limits.{maxVariables, maxActions, pairBytes, countBytes}
 use Rattle.rules.specs.Counts.{pairsBelow}
 use Rattle.rules.specs.File.{byte, bodyStart, body, actionBytes, actionIn, rests, taskOf}
 use Rattle.rules.proofs.Counting.{sumTo-const, sumTo-ext, sumTo-part, length-forEach}
@@ -102,6 +102,13 @@ module _ (sizes table : List ℕ) where
     row-written h =
         rw (f .values-are, f .pairs-are) (rows-more (variableRow sizes) variableWidth (wide-variable sizes) table out x (f .filled) (omega arith))
 
+    pairs-grown : VariablesFit sizes → (size more : ℕ) → x ≤ maxVariables → size ≡ byte sizes x → more ≡ pairsBelow size → pairs + more < indexValues
+    pairs-grown fit size more l es em =
+        grown-few (λ y. pairsBelow (byte sizes y)) variableRows x pairs more (omega arith) (fit .pairs-fit) (f .pairs-are) (em ∙ ap pairsBelow es)
+
+    pub pairs-sum-fits : VariablesFit sizes → (size more : ℕ) → x ≤ maxVariables → size ≡ byte sizes x → more ≡ pairsBelow size → Fits w64 (pairs + more)
+    pairs-sum-fits fit size more l es em = record { fits = omega (arith, pairs-grown fit size more l es em) }
+
     pub variables-more : VariablesFit sizes → (after : List ℕ) (size more : ℕ) → x ≤ maxVariables → after ≡ sets out (variableWidth * x) (values ∷ pairs ∷ [])
         → size ≡ byte sizes x → more ≡ pairsBelow size → VariablesFilled sizes table after (x + 1) (values + size) (pairs + more)
     variables-more fit after size more l ea es em =
@@ -110,7 +117,7 @@ module _ (sizes table : List ℕ) where
           room = f .room;
           room-still = ap length ea ∙ length-sets out (variableWidth * x) (values ∷ pairs ∷ []) ∙ f .room-still;
           values-few = grown-few (byte sizes) variableRows x values size (omega arith) (fit .values-fit) (f .values-are) es;
-          pairs-few = grown-few (λ y. pairsBelow (byte sizes y)) variableRows x pairs more (omega arith) (fit .pairs-fit) (f .pairs-are) (em ∙ ap pairsBelow es);
+          pairs-few = pairs-grown fit size more l es em;
           values-are = sum-more (byte sizes) x values size (f .values-are) es;
           pairs-are = sum-more (λ y. pairsBelow (byte sizes y)) x pairs more (f .pairs-are) (em ∙ ap pairsBelow es);
           filled = ea ∙ row-written (omega arith);
@@ -125,18 +132,6 @@ module _ (sizes table : List ℕ) where
 
 pub byte-past : (s : List ℕ) (i : ℕ) → length s ≤ i → 0 ≡ byte s i
 byte-past s i h = sym (List·getD-eq-default s 0 h)
-
-pub no-pairs : (m : ℕ) → m ≡ 0 → 0 ≡ pairsBelow m
-no-pairs m h = rw h
-
-few-pairs : (m : ℕ) → m < byteValues → m * (m - 1) < byteValues * byteValues
-few-pairs m h = let l : m - 1 ≤ byteValues - 1 = omega arith in let k : m ≤ byteValues - 1 = omega arith in omega (arith, mul-le-mul k l)
-
-pub pairs-fit : (m : ℕ) → m < byteValues → Fits w64 (m * (m - 1))
-pairs-fit m h = record { fits = omega (arith, few-pairs m h) }
-
-pub pairs-few : (m : ℕ) → m < byteValues → m * (m - 1) / 2 < byteValues * byteValues
-pairs-few m h = omega (arith, few-pairs m h)
 
 module _ (s : List ℕ) (at b₀ b₁ : ℕ) (e₀ : b₀ ≡ byte s at) (e₁ : b₁ ≡ byte s (at + 1)) where
   bytes-at : countBytes + pairBytes * (b₀ + b₁) ≡ actionBytes (drop at s)

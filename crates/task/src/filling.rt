@@ -3,6 +3,7 @@ use crate::index::ACTION_WIDTH;
 use crate::index::ACTIONS_AT;
 use crate::index::COUNT_AT;
 use crate::index::VARIABLE_WIDTH;
+use pairs::pairs_below;
 use reader::contents::body_start;
 use reader::contents::byte_at;
 use reader::contents::row_body;
@@ -17,7 +18,6 @@ ghost use lib.ListN.{length, take, drop};
 ghost use lib.Seq.{sets};
 ghost use Rattle.rules.specs.Counting.{forEach};
 ghost use Rattle.rules.specs.Limits.{byteValues, maxFile};
-ghost use Rattle.rules.specs.Counts.{pairsBelow};
 ghost use Rattle.rules.specs.File.{byte, actionBytes, rests, fileVerdict};
 ghost use Rattle.rules.specs.declared.Verdict.the-variants.{Accepted};
 ghost use Rattle.task.specs.Index.{variableRow, actionRow, variableRows, actionRows, variableWidth, actionWidth, actionsAt, indexLength, indexOf, VariablesFit, ActionsFit};
@@ -30,17 +30,6 @@ fn byte_if_any(s: &[u8], i: usize) -> usize
         return 0;
     }
     byte_at(s, i)
-}
-
-// How many pairs of different values there are among m.
-fn pairs_below(m: usize) -> usize
-    requires { ⌜ m < byteValues ⌝ }
-    ensures { λ r. ⌜ (r ≡ pairsBelow m) × (r < byteValues * byteValues) ⌝ }
-{
-    if m == 0 {
-        return 0;
-    }
-    m * (m - 1) / 2
 }
 
 fn put_variable(out: &mut [u16], at: usize, values: u16, pairs: u16)

@@ -3,7 +3,7 @@
 use borrow.Author.Needs.{needs}
 use Prim.Native.Nat.{_-_}
 use Rattle.task.specs.Index.{variableRows}
-use Rattle.task.proofs.Rows.{VariablesFilled, variables-none, variables-more, variables-all}
+use Rattle.task.proofs.Rows.{VariablesFilled, variables-none, pairs-sum-fits, variables-more, variables-all}
 use Rattle.task.proofs.filling.fill_variables.Statement.{statement}
 use Rattle.task.proofs.filling.fill_variables.Tie as tie
 
@@ -27,7 +27,7 @@ fill-variables-spec =
     (λ c κs. search needs)
     (λ c. search needs)
     (λ c κs. search needs)
-    (λ c. search needs)
+    (λ c. search (needs, pairs-sum-fits))
     (λ c. search needs)
     (λ c. search needs)
     (λ c. search (needs, variables-more))
