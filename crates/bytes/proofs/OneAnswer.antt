@@ -13,6 +13,7 @@ use Rattle.bytes.proofs.number_at.Reads as number
 use Rattle.bytes.proofs.texts.shared.Reads as shared
 use Rattle.bytes.proofs.texts.is_same.Reads as is-same
 use Rattle.bytes.proofs.words.word_end.Reads as word-end
+use Rattle.bytes.proofs.words.line_end.Reads as line-end
 use Rattle.bytes.proofs.words.is_digit.Reads as is-digit
 use Rattle.bytes.proofs.words.value.Reads as value
 
@@ -30,6 +31,9 @@ one-is-same κs a r s x p q = p ∙ sym q
 
 pub one-word-end : (κs : _) (a : _) (r s : ℕ) (x : _) → word-end.Post κs a r x → word-end.Post κs a s x → r ≡ s
 one-word-end κs a r s x p q = p .is ∙ sym (q .is)
+
+pub one-line-end : (κs : _) (a : _) (r s : ℕ) (x : _) → line-end.Post κs a r x → line-end.Post κs a s x → r ≡ s
+one-line-end κs a r s x p q = p .is ∙ sym (q .is)
 
 pub one-is-digit : (κs : _) (a : _) (r s : Bool) (x : _) → is-digit.Post κs a r x → is-digit.Post κs a s x → r ≡ s
 one-is-digit κs a r s x p q = p ∙ sym q

@@ -1,24 +1,24 @@
 -- Laws of words: a text is cut at its first separator, and the value of digits.
 -- Assumes nothing.
-use mathlib.Core.Path.{_≡_, refl, sym, ap}
+use mathlib.Core.Path.{_≡_, refl, sym, ap, _∙_}
 use mathlib.Core.Logic.{⊎-elim}
 use mathlib.Core.Bool.{false}
 use mathlib.Core.List.{List, [], _∷_}
 use Prim.Native.Nat.{ℕ, suc, _+_, _-_, _*_, _^_, _≤_, _<_}
 use native.Mathlib.Omega.{arith}
 use native.Mathlib.Numerals.{add-one}
-use native.Mathlib.Nat.{pow-suc, pow-le-pow-right}
-use borrow.Author.Tests.{eq-eqb, ne-eqb, le-leb, lt-leb}
+use native.Mathlib.Nat.{le-of-suc-le-suc, pow-suc, pow-le-pow-right}
+use borrow.Author.Tests.{eq-eqb, ne-eqb, eqb-true, le-leb, lt-leb}
 use lib.Dec.{eqb, leb, lit≤}
 use mir.Syntax.{w64}
 use mir.Val.{Fits}
 use lib.ListN.{length, take, drop, length-drop, drop-of-length-le, List·getD-eq-default}
-use lib.Seq.{drop-cons, take-all}
+use lib.Seq.{drop-cons, take-all, length-take-le, getD-drop}
 use Rattle.rules.specs.File.{byte}
-use Rattle.rules.specs.Text.{space, digit0}
+use Rattle.rules.specs.Text.{digit0}
 use Rattle.rules.specs.Lines.{onto, pieces, isDigit, valueFrom}
 use Rattle.rules.proofs.Bools.{either}
-use Rattle.bytes.specs.Words.{lengthUntil, piecesBehind, EndsAt, mostDigits}
+use Rattle.bytes.specs.Words.{lengthUntil, piecesBehind, PieceEnds, mostDigits}
 
 pub byte-past : (s : List ℕ) (i : ℕ) → length s ≤ i → 0 ≡ byte s i
 byte-past s i h = sym (List·getD-eq-default s 0 h)
@@ -27,7 +27,7 @@ byte-past s i h = sym (List·getD-eq-default s 0 h)
 pub from : (s : List ℕ) (i : ℕ) → take (length s - i) (drop i s) ≡ drop i s
 from s i = take-all (length s - i) (drop i s) (omega (arith, length-drop i s))
 
--- ---- where a word ends
+-- ---- where a piece ends
 
 until-le : (separator : ℕ) (s : List ℕ) → lengthUntil separator s ≤ length s
 unfolding lengthUntil
@@ -58,18 +58,43 @@ unfolding lengthUntil
 until-on separator s i h e = rw (add-one i, drop-cons s i 0 h, ne-eqb _ _ e)
 
 -- the three laws of the loop that looks for the end
-pub ends-here : (line : List ℕ) (at i : ℕ) → at ≤ i → i < length line → byte line i ≡ space
-    → i + lengthUntil space (drop i line) ≡ at + lengthUntil space (drop at line) → EndsAt line at i
-ends-here line at i b h e k = record { behind = b; within = omega arith; is = omega (arith, until-here space line i h e) }
+module _ (separator : ℕ) (s : List ℕ) (at i : ℕ) (left : i + lengthUntil separator (drop i s) ≡ at + lengthUntil separator (drop at s)) where
+  pub ends-here : at ≤ i → i < length s → byte s i ≡ separator → PieceEnds separator s at i
+  ends-here b h e = record { behind = b; within = omega arith; is = omega (arith, until-here separator s i h e) }
 
-pub ends-last : (line : List ℕ) (at i : ℕ) → at ≤ i → i ≤ length line → length line ≤ i
-    → i + lengthUntil space (drop i line) ≡ at + lengthUntil space (drop at line) → EndsAt line at i
-ends-last line at i b w h k = record { behind = b; within = w; is = omega (arith, until-end space line i h) }
+  pub ends-last : at ≤ i → i ≤ length s → length s ≤ i → PieceEnds separator s at i
+  ends-last b w h = record { behind = b; within = w; is = omega (arith, until-end separator s i h) }
 
-pub ends-on : (line : List ℕ) (at i : ℕ) → i < length line → (byte line i ≡ space → ⊥)
-    → i + lengthUntil space (drop i line) ≡ at + lengthUntil space (drop at line)
-    → i + 1 + lengthUntil space (drop (i + 1) line) ≡ at + lengthUntil space (drop at line)
-ends-on line at i h e k = omega (arith, until-on space line i h e)
+  pub ends-on : i < length s → (byte s i ≡ separator → ⊥) → i + 1 + lengthUntil separator (drop (i + 1) s) ≡ at + lengthUntil separator (drop at s)
+  ends-on h e = omega (arith, until-on separator s i h e)
+
+-- a piece has no separator in it, and unless the text ends with it, one stands behind it
+until-alone : (separator : ℕ) (s : List ℕ) → lengthUntil separator (take (lengthUntil separator s) s) ≡ lengthUntil separator s
+unfolding lengthUntil
+until-alone separator [] = refl
+until-alone separator (b ∷ s) =
+    ⊎-elim (λ t. rw t refl) (λ t. rw t (rw t (ap suc (until-alone separator s)))) (either (eqb b separator))
+
+until-stops : (separator : ℕ) (s : List ℕ) → lengthUntil separator s < length s → byte s (lengthUntil separator s) ≡ separator
+unfolding lengthUntil
+until-stops separator [] h = absurd (omega arith)
+until-stops separator (b ∷ s) h =
+    ⊎-elim (λ t. rw t (eqb-true b separator t)) (λ t. rw t (until-stops separator s (le-of-suc-le-suc (rw t at h)))) (either (eqb b separator))
+
+module _ (separator : ℕ) (s : List ℕ) (at end : ℕ) (ends : PieceEnds separator s at end) where
+  pub piece-alone : lengthUntil separator (take (end - at) (drop at s)) ≡ length (take (end - at) (drop at s))
+  piece-alone =
+      let n : end - at ≡ lengthUntil separator (drop at s) = omega (arith, ends .is) in
+      ap (λ k. lengthUntil separator (take k (drop at s))) n
+      ∙ until-alone separator (drop at s)
+      ∙ sym n
+      ∙ sym (length-take-le (end - at) (drop at s) (omega (arith, ends .within, length-drop at s)))
+
+  pub piece-stops : end < length s → byte s end ≡ separator
+  piece-stops h =
+      ap (byte s) (ends .is)
+      ∙ sym (getD-drop at s (lengthUntil separator (drop at s)) 0)
+      ∙ until-stops separator (drop at s) (omega (arith, ends .is, length-drop at s))
 
 pub below-digits : (b : ℕ) → b < digit0 → false ≡ isDigit b
 below-digits b h = rw (lt-leb digit0 b h)

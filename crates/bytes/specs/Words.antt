@@ -1,4 +1,4 @@
--- Words of a line: where one ends, and the pieces that are left behind it.
+-- Pieces of a text between separators, as its lines and the words of a line: where one ends, and the pieces that are left behind it.
 -- Assumes nothing.
 use Prim.Native.Nat.{ℕ, suc, _+_, _≤_}
 use mathlib.Core.Bool.{cond}
@@ -19,11 +19,15 @@ unfoldable pub piecesBehind : (separator : ℕ) → List ℕ → List (List ℕ)
 piecesBehind separator [] = []
 piecesBehind separator (b ∷ s) = pieces separator s
 
--- the word of a line that begins at a place ends here
-pub record EndsAt (line : List ℕ) (at end : ℕ) : Type 0 where
+-- the piece of a text that begins at a place ends here
+pub record PieceEnds (separator : ℕ) (s : List ℕ) (at end : ℕ) : Type 0 where
   pub behind : at ≤ end
-  pub within : end ≤ length line
-  pub is : end ≡ at + lengthUntil space (drop at line)
+  pub within : end ≤ length s
+  pub is : end ≡ at + lengthUntil separator (drop at s)
+
+-- the word of a line that begins at a place ends here
+abbrev pub EndsAt : (line : List ℕ) (at end : ℕ) → Type 0
+EndsAt line at end = PieceEnds space line at end
 
 -- so many bytes have a value that fits a number, whatever they are
 abbrev pub mostDigits : ℕ

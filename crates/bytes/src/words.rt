@@ -1,25 +1,41 @@
-// Words of a line: what stands between spaces, and the value of digits.
+// Where lines and words end, and the value of digits.
 ghost use mathlib.Core.Path.{_≡_};
 ghost use Prim.Native.Nat.{_≤_, _<_, _-_};
 ghost use lib.ListN.{length};
 ghost use Rattle.rules.specs.Limits.{byteValues};
-ghost use Rattle.rules.specs.Text.{digit0};
+ghost use Rattle.rules.specs.Text.{lf, digit0};
 ghost use Rattle.rules.specs.Lines.{isDigit, valueFrom};
-ghost use Rattle.bytes.specs.Words.{EndsAt, mostDigits};
+ghost use Rattle.bytes.specs.Words.{PieceEnds, EndsAt, mostDigits};
+
+// Where the piece that begins at `at` ends: at the next separator, or with the bytes.
+fn piece_end(bytes: &[u8], at: usize, separator: u8) -> usize
+    requires { ⌜ at ≤ length (now bytes) ⌝ }
+    ensures { λ r. ⌜ PieceEnds separator (now (bytes .entry)) at r ⌝ }
+{
+    let mut end = at;
+    while end < bytes.len() {
+        if bytes[end] == separator {
+            return end;
+        }
+        end += 1;
+    }
+    end
+}
 
 // Where the word that begins at `at` ends: at the next space, or with the line.
 pub fn word_end(line: &[u8], at: usize) -> usize
     requires { ⌜ at ≤ length (now line) ⌝ }
     ensures { λ r. ⌜ EndsAt (now (line .entry)) at r ⌝ }
 {
-    let mut end = at;
-    while end < line.len() {
-        if line[end] == b' ' {
-            return end;
-        }
-        end += 1;
-    }
-    end
+    piece_end(line, at, b' ')
+}
+
+// Where the line that goes on at `at` ends: at the next LF, or with the bytes.
+pub fn line_end(bytes: &[u8], at: usize) -> usize
+    requires { ⌜ at ≤ length (now bytes) ⌝ }
+    ensures { λ r. ⌜ PieceEnds lf (now (bytes .entry)) at r ⌝ }
+{
+    piece_end(bytes, at, b'\n')
 }
 
 pub fn is_digit(b: u8) -> bool

@@ -3,7 +3,7 @@
 use mathlib.Core.Path.{_≡_, refl, sym, ap, _∙_}
 use mathlib.Core.Logic.{⊎-elim}
 use mathlib.Core.Bool.{Bool, true, cond}
-use mathlib.Core.List.{List, [], _∷_, _++_, foldl, foldl-append}
+use mathlib.Core.List.{List, [], _∷_, _++_, foldl}
 use Prim.Native.Nat.{ℕ, _+_, _≤_, _<_, min}
 use native.Mathlib.Omega.{arith}
 use borrow.Author.Tests.{eq-eqb, ne-eqb, eqb-true, eqb-false, le-leb, lt-leb, lt-ltb, le-ltb}
@@ -28,13 +28,10 @@ use Rattle.rules.proofs.Bools.{either, below-or, and-left}
 use Rattle.rules.proofs.Cut.{linesAhead, ahead-first, ahead-none, ahead-last, ahead-lf, ahead-byte, Holds, holds-none, holds-more, holds-full}
 use Rattle.output.specs.Line.{bothFit}
 use Rattle.output.specs.Feeding.{lineRoom, Fed, fedByte, feedByte, feedAll, roomFor, hasRoom, feedCall, finished, finish, finishCall}
+use Rattle.output.proofs.FeedLaws.{fed-stays, fed-in-pieces}
 use Rattle.output.proofs.Kept.{all-keep}
 
 -- ---- pieces do not matter
-
-pub fed-in-pieces : (fed : Fed) (s t : List ℕ) → feedAll (feedAll fed s) t ≡ feedAll fed (s ++ t)
-unfolding feedAll
-fed-in-pieces fed s t = sym (foldl-append feedByte fed s t)
 
 fed-nothing : (fed : Fed) → fed ≡ feedAll fed []
 unfolding feedAll
@@ -67,16 +64,6 @@ on-stays answer why rows line e = rw e
 lines-stay : (p : Progress) (why : Refusal) (ls : List (List ℕ)) → p .answer ≡ LineAnswer.Refused why → foldl step p ls ≡ p
 lines-stay p why [] e = refl
 lines-stay p why (l ∷ ls) e = ap (λ q. foldl step q ls) (on-stays (p .answer) why (p .rows) l e) ∙ lines-stay p why ls e
-
-byte-stays : (answer : LineAnswer) (why : Refusal) (rows : Rows) (held : ℕ) (line : List ℕ) (b : ℕ) → answer ≡ LineAnswer.Refused why
-    → _≡_ {A = Fed} (fedByte answer rows held line b) (record { progress = record { answer = answer; rows = rows }; held = held; line = line })
-byte-stays answer why rows held line b e = rw e
-
-fed-stays : (fed : Fed) (why : Refusal) (bytes : List ℕ) → fed .progress .answer ≡ LineAnswer.Refused why → feedAll fed bytes ≡ fed
-unfolding feedAll feedByte
-fed-stays fed why [] e = refl
-fed-stays fed why (b ∷ bytes) e =
-    ap (λ f. feedAll f bytes) (byte-stays (fed .progress .answer) why (fed .progress .rows) (fed .held) (fed .line) b e) ∙ fed-stays fed why bytes e
 
 end-stays : (answer : LineAnswer) (why : Refusal) (rows : Rows) (held : ℕ) (line : List ℕ) → answer ≡ LineAnswer.Refused why
     → _≡_ {A = Progress} (finished answer rows held line) (record { answer = answer; rows = rows })

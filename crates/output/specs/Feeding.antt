@@ -1,7 +1,8 @@
 -- A whole output, fed in pieces: lines are read as they end, and what there is of the next one is held in lent bytes, one more than a line may
 -- have at most.
 -- Assumes nothing.
-use Prim.Native.Nat.{ℕ, _+_, min}
+use Prim.Native.Nat.{ℕ, _+_, _-_, min}
+use mathlib.Core.Path.{_≡_}
 use mathlib.Core.Bool.{Bool, cond, _&&_}
 use mathlib.Core.List.{List, foldl}
 use lib.Dec.{eqb, leb, ltb}
@@ -12,6 +13,8 @@ use Rattle.rules.specs.Rows.{Rows}
 use Rattle.rules.specs.Lines.{Progress, readLine}
 use Rattle.rules.specs.declared.Refusal.the-variants.{Room}
 use Rattle.rules.specs.declared.LineAnswer.{LineAnswer}
+use Rattle.bytes.specs.Words.{lengthUntil}
+use Rattle.digits.specs.Over.{over}
 use Rattle.output.specs.Line.{leaves, bothFit}
 use Rattle.output.specs.declared.feeding.Feed.{Feed}
 
@@ -42,6 +45,20 @@ feedByte fed b = fedByte (fed .progress .answer) (fed .progress .rows) (fed .hel
 
 unfoldable pub feedAll : Fed → List ℕ → Fed
 feedAll fed bytes = foldl feedByte fed bytes
+
+-- what is held once so many more bytes of a line have come, and where: behind those that are held, as far as there is room
+abbrev pub heldThen : (held more : ℕ) → ℕ
+heldThen held more = min (held + more) lineRoom
+
+abbrev pub lineThen : (line : List ℕ) (held : ℕ) (part : List ℕ) → List ℕ
+lineThen line held part = over line held (take (lineRoom - held) part)
+
+-- bytes of one line, and perhaps the LF behind them
+abbrev pub WithoutLF : List ℕ → Type 0
+WithoutLF part = lengthUntil lf part ≡ length part
+
+unfoldable pub feedPart : Fed → (part : List ℕ) (ends : Bool) → Fed
+feedPart fed part ends = cond ends (feedByte (feedAll fed part) lf) (feedAll fed part)
 
 -- so many words and bytes are room for a line and for the rows of a reading; a refused reading needs no rows
 unfoldable pub roomFor : LineAnswer → (given isTrue line : ℕ) → Bool

@@ -7,7 +7,7 @@ ghost use Prim.Native.Nat.{_≤_, min};
 ghost use lib.ListN.{length};
 ghost use Rattle.rules.specs.declared.LineAnswer.the-variants.{Next};
 ghost use Rattle.output.specs.Line.{leaves};
-ghost use Rattle.output.specs.Feeding.{lineRoom, roomFor, feedLeaves, feedByte, feedCall, finishCall};
+ghost use Rattle.output.specs.Feeding.{lineRoom, roomFor, feedLeaves, heldThen, lineThen, WithoutLF, feedPart, feedCall, finishCall};
 
 // The room that a line needs: one byte more than it may have.
 pub const LINE_ROOM: usize = 4097;
@@ -50,32 +50,42 @@ fn smaller(a: usize, b: usize) -> usize
     a
 }
 
-// One byte: an LF ends the line, another is held.
-fn feed_byte(state: Feed, given: &mut [u64], truth: &mut [u64], line: &mut [u8], b: u8) -> Feed
-    requires { ⌜ (lineRoom ≤ length (now line)) × (state .held ≤ lineRoom) ⌝ }
-    ensures { λ r. ⌜ feedLeaves r (now (given .exit)) (now (truth .exit)) (now (line .exit)) ≡ feedByte (feedLeaves state (now (given .entry)) (now (truth .entry)) (now (line .entry))) b ⌝ }
+// Bytes of a line go behind those that are held, as far as there is room; how many are held then.
+fn hold(line: &mut [u8], held: usize, part: &[u8]) -> usize
+    requires { ⌜ (held ≤ lineRoom) × (lineRoom ≤ length (now line)) ⌝ }
+    ensures written { λ r. ⌜ now (line .exit) ≡ lineThen (now (line .entry)) held (now (part .entry)) ⌝ }
+    ensures behind { λ r. ⌜ r ≡ heldThen held (length (now (part .entry))) ⌝ }
+{
+    let most = smaller(part.len(), LINE_ROOM - held);
+    digits::put_text(line, held, &part[..most])
+}
+
+// Bytes without an LF are held; where an LF follows them, it ends the line.
+fn feed_part(
+    state: Feed,
+    given: &mut [u64],
+    truth: &mut [u64],
+    line: &mut [u8],
+    part: &[u8],
+    ends: bool,
+) -> Feed
+    requires { ⌜ (lineRoom ≤ length (now line)) × (state .held ≤ lineRoom) × WithoutLF (now part) ⌝ }
+    ensures { λ r. ⌜ feedLeaves r (now (given .exit)) (now (truth .exit)) (now (line .exit)) ≡ feedPart (feedLeaves state (now (given .entry)) (now (truth .entry)) (now (line .entry))) (now (part .entry)) ends ⌝ }
     ensures { λ r. ⌜ r .held ≤ lineRoom ⌝ }
 {
-    let held = state.held;
     let answer = state.answer;
     let LineAnswer::Next(reading) = answer else {
         return state;
     };
-    if b == b'\n' {
+    let held = hold(line, state.held, part);
+    if ends {
         let next = crate::read_line(reading, given, truth, &line[..held]);
         return Feed {
             answer: next,
             held: 0,
         };
     }
-    if held < LINE_ROOM {
-        line[held] = b;
-        return Feed {
-            answer,
-            held: held + 1,
-        };
-    }
-    state
+    Feed { answer, held }
 }
 
 // The next bytes of an output, as many as there are.
@@ -97,10 +107,12 @@ pub fn take_bytes(
     }
     let held = smaller(state.held, LINE_ROOM);
     let mut fed = Feed { answer, held };
-    let mut i = 0;
-    while i < bytes.len() {
-        fed = feed_byte(fed, given, truth, line, bytes[i]);
-        i += 1;
+    let mut at = 0;
+    while at < bytes.len() {
+        let end = bytes::words::line_end(bytes, at);
+        let ends = end < bytes.len();
+        fed = feed_part(fed, given, truth, line, &bytes[at..end], ends);
+        at = end + 1;
     }
     fed
 }

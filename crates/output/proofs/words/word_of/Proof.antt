@@ -1,7 +1,7 @@
 -- `word_of` meets its contract.
 -- Assumes nothing.
 use borrow.Author.Needs.{needs}
-use Rattle.output.proofs.WordLaws.{broken-short, broken-bare, few-digits, number-is}
+use Rattle.output.proofs.WordLaws.{broken-short, broken-bare, number-is}
 use Rattle.output.proofs.words.word_of.Statement.{statement}
 use Rattle.output.proofs.words.word_of.Tie as tie
 
@@ -13,8 +13,4 @@ word-of-spec =
     (λ c κs. search needs)
     (λ c. search (needs, broken-short))
     (λ c. search (needs, broken-bare))
-    (λ c. search needs)
-    (λ c. search needs)
-    (λ c. search needs)
-    (λ c κs. search (needs, few-digits))
     (λ c. search (needs, number-is)))
