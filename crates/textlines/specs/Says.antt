@@ -73,11 +73,6 @@ aFact = fact (λ p s. s)
 unfoldable pub isFact : List ℕ → Bool
 isFact line = eqb (wordCount line) 2 && isPlain (wordAt line 0) && isPlain (wordAt line 1)
 
--- a fact by what stands on the two sides of a space
-unfoldable pub sidesSay : (at : ℕ) → (variable value : List ℕ) → Said
-sidesSay at variable value =
-    saidBy (judge (demand (isPlain variable && isPlain value) (AgainstFormat at) ∷ [])) (numbers (valueFrom 0 variable) (valueFrom 0 value) OldValue.Any)
-
 -- a number, or -1
 unfoldable pub isSigned : List ℕ → Bool
 isSigned word = isPlain word || isMinusOne word

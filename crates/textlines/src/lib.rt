@@ -1,4 +1,5 @@
 // One line of the translator's text: whether it is what is due, and the numbers that it says.
+pub mod facts;
 mod plain;
 mod shapes;
 mod words;
@@ -27,19 +28,8 @@ pub enum Said {
     Refused(Refusal),
 }
 
-// What a line says where a line of some kind is due; `at` is its number in the text. The facts of mutex groups are most of a large text, so they are
-// answered before any keyword is laid out to be compared.
+// What a line says where a line of some kind is due; `at` is its number in the text.
 pub fn says(due: FormatLine, at: usize, line: &[u8]) -> Said
-    ensures { λ r. ⌜ r ≡ saysAs due at (now (line .entry)) ⌝ }
-{
-    if let FormatLine::MutexFact = due {
-        return shapes::fact_line(at, line);
-    }
-    says_by_kind(due, at, line)
-}
-
-// What a line says, by each kind that may be due.
-fn says_by_kind(due: FormatLine, at: usize, line: &[u8]) -> Said
     ensures { λ r. ⌜ r ≡ saysAs due at (now (line .entry)) ⌝ }
 {
     match due {
