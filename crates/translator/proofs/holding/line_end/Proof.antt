@@ -5,8 +5,8 @@ use Prim.Native.Nat.{_-_, _≤_}
 use lib.ListN.{length}
 use Rattle.translator.specs.Intake.{Passed}
 use Rattle.translator.proofs.ByteLaws.{passed-none, passed-byte, passed-to-lf, passed-to-end}
-use Rattle.translator.proofs.intake.line_end.Statement.{statement}
-use Rattle.translator.proofs.intake.line_end.Tie as tie
+use Rattle.translator.proofs.holding.line_end.Statement.{statement}
+use Rattle.translator.proofs.holding.line_end.Tie as tie
 
 abbrev Inv-loop : tie.InvT-loop
 Inv-loop bytes at end₀ end = (at ≤ end) × (end ≤ length bytes) × Passed bytes at end
