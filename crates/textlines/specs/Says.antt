@@ -2,10 +2,9 @@
 -- Assumes nothing.
 use Prim.Native.Nat.{ℕ}
 use mathlib.Core.Bool.{Bool, cond, _&&_, _||_}
-use mathlib.Core.List.{List, [], _∷_}
+use mathlib.Core.List.{List, []}
 use lib.Dec.{eqb}
-use Rattle.rules.specs.Answers.{demand, judge}
-use Rattle.rules.specs.Lines.{valueFrom}
+use Rattle.rules.specs.Answers.{judge}
 use Rattle.rules.specs.Format.{Shape, keyword, name, version, metric, layer, number, fact, effect, axiomCount, nothing, shapeOf, lineRules, wordAt, wordCount, isPlain, isMinusOne, numberAt, lineNumber, hasOld}
 use Rattle.rules.specs.declared.FormatLine.{FormatLine}
 use Rattle.rules.specs.declared.Refusal.the-variants.{AgainstFormat}

@@ -1,5 +1,4 @@
 // One line of the translator's text: whether it is what is due, and the numbers that it says.
-pub mod facts;
 mod plain;
 mod shapes;
 mod words;
@@ -7,7 +6,7 @@ mod words;
 use rules::FormatLine;
 use rules::Refusal;
 ghost use mathlib.Core.Path.{_≡_};
-ghost use Rattle.textlines.specs.Says.{saysAs};
+ghost use Rattle.textlines.specs.Says.{isFact, saysAs};
 
 // The old value of an effect: -1 stands for any.
 pub enum OldValue {
@@ -26,6 +25,20 @@ pub struct Numbers {
 pub enum Said {
     Says(Numbers),
     Refused(Refusal),
+}
+
+// Whether a line is a fact, which is all that is asked of a mutex group's: it is cut at its first space alone, since no number has one.
+pub fn is_fact(line: &[u8]) -> bool
+    ensures { λ r. ⌜ r ≡ isFact (now (line .entry)) ⌝ }
+{
+    let end = bytes::words::word_end(line, 0);
+    if end == line.len() {
+        return false;
+    }
+    if !plain::is_plain(&line[0..end]) {
+        return false;
+    }
+    plain::is_plain(&line[end + 1..])
 }
 
 // What a line says where a line of some kind is due; `at` is its number in the text.

@@ -2,7 +2,7 @@
 use crate::Numbers;
 use crate::OldValue;
 use crate::Said;
-use crate::facts;
+use crate::is_fact;
 use crate::plain;
 use crate::words;
 use rules::Refusal;
@@ -113,7 +113,7 @@ pub fn number_line(at: usize, line: &[u8]) -> Said
 pub fn fact_line(at: usize, line: &[u8]) -> Said
     ensures { λ r. ⌜ r ≡ shapeSays aFact at (now (line .entry)) ⌝ }
 {
-    if !facts::is_fact(line) {
+    if !is_fact(line) {
         return against_format(at);
     }
     Said::Says(Numbers {

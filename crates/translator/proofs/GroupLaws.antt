@@ -8,7 +8,6 @@ use native.Mathlib.Omega.{arith}
 use borrow.Author.Tests.{ne-eqb, ltb-true, lt-ltb, le-ltb}
 use lib.Dec.{ltb}
 use lib.ListN.{length, getD, take, drop}
-use Rattle.rules.specs.Text.{lf}
 use Rattle.rules.specs.declared.FormatLine.{FormatLine}
 use Rattle.rules.specs.declared.FormatLine.the-variants.{MutexFact}
 use Rattle.rules.specs.declared.Verdict.{Verdict}

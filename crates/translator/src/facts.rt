@@ -6,7 +6,6 @@ use crate::lines::one_more;
 use crate::position::repeated;
 use rules::FormatLine;
 use rules::Verdict;
-use textlines::facts::is_fact;
 ghost use mathlib.Core.Bool.{_&&_};
 ghost use mathlib.Core.Path.{_≡_};
 ghost use Prim.Native.Nat.{_≤_, _<_};
@@ -33,7 +32,7 @@ fn fact_ends(line: &[u8], held: usize, bytes: &[u8], at: usize) -> bool
     if bytes.len() <= at {
         return false;
     }
-    is_fact(&line[..held])
+    textlines::is_fact(&line[..held])
 }
 
 // A fact has ended before a place.

@@ -2,8 +2,8 @@
 -- Assumes nothing.
 use borrow.Author.Needs.{needs}
 use Rattle.textlines.proofs.FactLaws.{one-word-only, no-variable, by-value}
-use Rattle.textlines.proofs.facts.is_fact.Statement.{statement}
-use Rattle.textlines.proofs.facts.is_fact.Tie as tie
+use Rattle.textlines.proofs.is_fact.Statement.{statement}
+use Rattle.textlines.proofs.is_fact.Tie as tie
 
 pub is-fact-spec : {M : Type 1} → statement M
 is-fact-spec =
