@@ -1,10 +1,10 @@
--- `line_end` meets its contract: the bytes so far change nothing.
+-- `line_end` meets its contract: the blocks so far change nothing.
 -- Assumes nothing.
 use borrow.Author.Needs.{needs}
 use Prim.Native.Nat.{_-_, _≤_}
 use lib.ListN.{length}
 use Rattle.translator.specs.Intake.{Passed}
-use Rattle.translator.proofs.ByteLaws.{passed-none, passed-byte, passed-to-lf, passed-to-end}
+use Rattle.translator.proofs.ByteLaws.{passed-none, block-within, block-less, passed-block, passed-behind}
 use Rattle.translator.proofs.holding.line_end.Statement.{statement}
 use Rattle.translator.proofs.holding.line_end.Tie as tie
 
@@ -21,9 +21,9 @@ line-end-spec =
     Inv-loop
     μ-loop
     (λ c. search (needs, passed-none))
-    (λ c. search needs)
-    (λ c. search (needs, passed-to-lf))
-    (λ c. search needs)
-    (λ c. search needs)
-    (λ c. search (needs, passed-byte))
-    (λ c. search (needs, passed-to-end)))
+    (λ c κs. search needs)
+    (λ c. search (needs, block-within))
+    (λ c. search (needs, block-less))
+    (λ c. search (needs, block-within, passed-block))
+    (λ c κs. search needs)
+    (λ c. search (needs, passed-behind)))
