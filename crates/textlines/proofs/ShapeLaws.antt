@@ -1,6 +1,6 @@
 -- Laws of shapes: each answer to a line by the rule that decides it.
 -- Assumes nothing.
-use mathlib.Core.Path.{_≡_, sym, ap, _∙_}
+use mathlib.Core.Path.{_≡_, refl, sym, ap, _∙_}
 use mathlib.Core.Bool.{Bool, true, false, not, _&&_, _||_}
 use mathlib.Core.List.{List, [], _∷_}
 use Prim.Native.Nat.{ℕ, _≤_, _<_}
@@ -12,6 +12,7 @@ use Rattle.rules.specs.Task.{Pair}
 use Rattle.rules.specs.Lines.{same, valueFrom}
 use Rattle.rules.specs.Format.{Stated, keyword, name, version, metric, layer, number, fact, effect, axiomCount, nothing, lineRules, wordAt, wordCount, isPlain, isMinusOne, numberAt, lineNumber}
 use Rattle.rules.specs.declared.FormatLine.{FormatLine}
+use Rattle.rules.specs.declared.FormatLine.the-variants.{MutexFact}
 use Rattle.rules.specs.declared.Refusal.{Refusal}
 use Rattle.rules.specs.declared.Refusal.the-variants.{AgainstFormat, AxiomOrCondition, OtherVersion}
 use Rattle.rules.proofs.Bools.{not-true, not-false}
@@ -27,11 +28,11 @@ pub stops : (holds : Bool) (why : Refusal) (rules : List Rule) (says : Numbers) 
     → Said.Refused why ≡ saidBy (judge (demand holds why ∷ rules)) says
 stops holds why rules says t = sym (ap (λ v. saidBy v says) (judge-refused (demand holds why) rules t))
 
-pub passes : (holds : Bool) (why : Refusal) (rules : List Rule) (says : Numbers) → holds ≡ true
+passes : (holds : Bool) (why : Refusal) (rules : List Rule) (says : Numbers) → holds ≡ true
     → saidBy (judge rules) says ≡ saidBy (judge (demand holds why ∷ rules)) says
 passes holds why rules says t = sym (ap (λ v. saidBy v says) (judge-passed (demand holds why) rules t))
 
-pub through : (says : Numbers) → Said.Says says ≡ saidBy (judge []) says
+through : (says : Numbers) → Said.Says says ≡ saidBy (judge []) says
 through says = sym (ap (λ v. saidBy v says) judge-nil)
 
 pub plain-true : (line : List ℕ) (b : Bool) → b ≡ isPlain line → not b ≡ false → isPlain line ≡ true
@@ -188,9 +189,17 @@ module _ (at : ℕ) (line : List ℕ) where
         pub axiom-right : (r : Said) → c ≡ eqb (wordCount line) 1 → not c ≡ false → r ≡ saysNothing → r ≡ shapeSays axiomCount at line
         axiom-right r f u e = e ∙ through noNumbers ∙ passes (eqb (wordCount line) 1) (AgainstFormat at) [] _ (sym f ∙ not-false c u) ∙ axiom-rest
 
-  pub fact-against : (r : Said) → isFact line ≡ false → r ≡ againstFormat at → r ≡ shapeSays aFact at line
-  unfolding shapeSays lineRules isFact
-  fact-against r t e = e ∙ stops _ (AgainstFormat at) [] _ t
+  module _ (b : Bool) (is : b ≡ isFact line) where
+    pub fact-against : (r : Said) → not b ≡ true → r ≡ againstFormat at → r ≡ shapeSays aFact at line
+    unfolding shapeSays lineRules isFact
+    fact-against r t e = e ∙ stops _ (AgainstFormat at) [] _ (sym is ∙ not-true b t)
+
+    pub fact-right : not b ≡ false → (x v : ℕ) → x ≡ numberAt line 0 → v ≡ numberAt line 1
+        → Said.Says (record { first = x; second = v; old = OldValue.Any }) ≡ shapeSays aFact at line
+    unfolding shapeSays lineRules isFact numbersIn
+    fact-right t x v ex ev =
+        let said : _≡_ {A = Numbers} (numbers x v OldValue.Any) (numbers (numberAt line 0) (numberAt line 1) OldValue.Any) = rw (ex, ev) in
+        ap (λ n. Said.Says n) said ∙ through _ ∙ passes _ (AgainstFormat at) [] _ (sym is ∙ not-false b t)
 
   -- what a number announces and states is no matter of the line
   pub number-says : (r : Said) → (announced : ℕ → List FormatLine) (states : ℕ → Stated → Stated) → r ≡ shapeSays aNumber at line → r ≡ shapeSays (number announced states) at line
@@ -203,3 +212,8 @@ module _ (at : ℕ) (line : List ℕ) where
 
   pub says-as : (r : Said) → (due kind : FormatLine) → due ≡ kind → r ≡ saysAs kind at line → r ≡ saysAs due at line
   says-as r due kind e h = rw e h
+
+-- of a mutex group's fact nothing else is asked
+pub group-fact : (at : ℕ) (line : List ℕ) → isFact line ≡ true → saysAs MutexFact at line ≡ Said.Says (numbers (numberAt line 0) (numberAt line 1) OldValue.Any)
+unfolding saysAs
+group-fact at line t = sym (fact-says at line _ _ (fact-right at line true (sym t) refl _ _ refl refl))

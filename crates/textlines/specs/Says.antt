@@ -2,10 +2,9 @@
 -- Assumes nothing.
 use Prim.Native.Nat.{ℕ}
 use mathlib.Core.Bool.{Bool, cond, _&&_, _||_}
-use mathlib.Core.List.{List, [], _∷_}
+use mathlib.Core.List.{List, []}
 use lib.Dec.{eqb}
-use Rattle.rules.specs.Answers.{demand, judge}
-use Rattle.rules.specs.Lines.{valueFrom}
+use Rattle.rules.specs.Answers.{judge}
 use Rattle.rules.specs.Format.{Shape, keyword, name, version, metric, layer, number, fact, effect, axiomCount, nothing, shapeOf, lineRules, wordAt, wordCount, isPlain, isMinusOne, numberAt, lineNumber, hasOld}
 use Rattle.rules.specs.declared.FormatLine.{FormatLine}
 use Rattle.rules.specs.declared.Refusal.the-variants.{AgainstFormat}
@@ -72,11 +71,6 @@ aFact = fact (λ p s. s)
 
 unfoldable pub isFact : List ℕ → Bool
 isFact line = eqb (wordCount line) 2 && isPlain (wordAt line 0) && isPlain (wordAt line 1)
-
--- a fact by what stands on the two sides of a space
-unfoldable pub sidesSay : (at : ℕ) → (variable value : List ℕ) → Said
-sidesSay at variable value =
-    saidBy (judge (demand (isPlain variable && isPlain value) (AgainstFormat at) ∷ [])) (numbers (valueFrom 0 variable) (valueFrom 0 value) OldValue.Any)
 
 -- a number, or -1
 unfoldable pub isSigned : List ℕ → Bool

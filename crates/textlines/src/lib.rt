@@ -6,7 +6,7 @@ mod words;
 use rules::FormatLine;
 use rules::Refusal;
 ghost use mathlib.Core.Path.{_≡_};
-ghost use Rattle.textlines.specs.Says.{saysAs};
+ghost use Rattle.textlines.specs.Says.{isFact, saysAs};
 
 // The old value of an effect: -1 stands for any.
 pub enum OldValue {
@@ -27,19 +27,22 @@ pub enum Said {
     Refused(Refusal),
 }
 
-// What a line says where a line of some kind is due; `at` is its number in the text. The facts of mutex groups are most of a large text, so they are
-// answered before any keyword is laid out to be compared.
-pub fn says(due: FormatLine, at: usize, line: &[u8]) -> Said
-    ensures { λ r. ⌜ r ≡ saysAs due at (now (line .entry)) ⌝ }
+// Whether a line is a fact, which is all that is asked of a mutex group's: it is cut at its first space alone, since no number has one.
+pub fn is_fact(line: &[u8]) -> bool
+    ensures { λ r. ⌜ r ≡ isFact (now (line .entry)) ⌝ }
 {
-    if let FormatLine::MutexFact = due {
-        return shapes::fact_line(at, line);
+    let end = bytes::words::word_end(line, 0);
+    if end == line.len() {
+        return false;
     }
-    says_by_kind(due, at, line)
+    if !plain::is_plain(&line[0..end]) {
+        return false;
+    }
+    plain::is_plain(&line[end + 1..])
 }
 
-// What a line says, by each kind that may be due.
-fn says_by_kind(due: FormatLine, at: usize, line: &[u8]) -> Said
+// What a line says where a line of some kind is due; `at` is its number in the text.
+pub fn says(due: FormatLine, at: usize, line: &[u8]) -> Said
     ensures { λ r. ⌜ r ≡ saysAs due at (now (line .entry)) ⌝ }
 {
     match due {

@@ -2,17 +2,23 @@
 use crate::Numbers;
 use crate::OldValue;
 use crate::Said;
+use crate::is_fact;
 use crate::plain;
 use crate::words;
 use rules::Refusal;
 ghost use mathlib.Core.Bool.{true};
 ghost use mathlib.Core.Path.{_≡_};
 ghost use Rattle.rules.specs.Format.{keyword, version, metric, layer, effect, axiomCount, wordAt};
-ghost use Rattle.textlines.specs.Says.{saysNothing, againstFormat, oldIn, shapeSays, aNumber, aFact, sidesSay, isSigned, isEffect};
+ghost use Rattle.textlines.specs.Says.{saysNothing, againstFormat, oldIn, shapeSays, aNumber, aFact, isSigned, isEffect};
 
 const FORMAT_VERSION: usize = 3;
 
 const HIGHEST_METRIC: usize = 1;
+
+// The words of a fact's line: the variable and its value.
+const FACT_VARIABLE_AT: usize = 0;
+
+const FACT_VALUE_AT: usize = 1;
 
 // The words of an effect's line: the count of its conditions, the variable, its old and its new value.
 const EFFECT_WORDS: usize = 4;
@@ -103,32 +109,18 @@ pub fn number_line(at: usize, line: &[u8]) -> Said
     })
 }
 
-// A variable and a value, by what stands on the two sides of a space.
-fn sides(at: usize, variable: &[u8], value: &[u8]) -> Said
-    ensures { λ r. ⌜ r ≡ sidesSay at (now (variable .entry)) (now (value .entry)) ⌝ }
-{
-    if !plain::is_plain(variable) {
-        return against_format(at);
-    }
-    if !plain::is_plain(value) {
-        return against_format(at);
-    }
-    Said::Says(Numbers {
-        first: plain::number(variable),
-        second: plain::number(value),
-        old: OldValue::Any,
-    })
-}
-
-// A variable and a value: the line is cut at its first space alone, since no number has one.
+// A variable and a value.
 pub fn fact_line(at: usize, line: &[u8]) -> Said
     ensures { λ r. ⌜ r ≡ shapeSays aFact at (now (line .entry)) ⌝ }
 {
-    let end = bytes::words::word_end(line, 0);
-    if end == line.len() {
+    if !is_fact(line) {
         return against_format(at);
     }
-    sides(at, &line[0..end], &line[end + 1..])
+    Said::Says(Numbers {
+        first: plain::number_at(line, FACT_VARIABLE_AT),
+        second: plain::number_at(line, FACT_VALUE_AT),
+        old: OldValue::Any,
+    })
 }
 
 // Whether a line without conditions is an effect's.

@@ -1,20 +1,23 @@
 -- Bytes: held up to the end of a line, line by line, and all of a call.
 -- Assumes nothing.
-use Prim.Native.Nat.{ℕ, _+_, _≤_, _<_}
-use mathlib.Core.Path.{_≡_, refl, sym, ap, _∙_}
-use mathlib.Core.Bool.{Bool, true, false, not}
+use Prim.Native.Nat.{ℕ, zero, suc, _+_, _-_, _≤_, _<_}
+use mathlib.Core.Path.{_≡_, refl, sym, ap, ap₂, _∙_}
+use mathlib.Core.Bool.{Bool, true, false, not, _&&_}
 use mathlib.Core.List.{List}
 use native.Mathlib.Omega.{arith}
+use native.Mathlib.Nat.{add-zero, add-suc}
 use native.Mathlib.Numerals.{add-one}
+use borrow.Author.Tests.{eq-eqb, le-leb, lt-leb, leb-true}
+use lib.Dec.{eqb, leb}
 use lib.ListN.{length, getD, drop, set, drop-of-length-le}
 use lib.Seq.{drop-cons}
 use Rattle.rules.specs.Text.{lf}
 use Rattle.rules.specs.declared.Refusal.{Refusal}
 use Rattle.rules.specs.declared.Refusal.the-variants.{Room}
 use Rattle.rules.specs.declared.Verdict.the-variants.{Accepted, Refused}
-use Rattle.rules.proofs.Bools.{not-true, not-false}
+use Rattle.rules.proofs.Bools.{clash, and-left, and-right, not-true, not-false}
 use Rattle.bodies.specs.Keeping.{Sound}
-use Rattle.translator.specs.Intake.{Memory, headRoom, Taken, taken, Ready, endLine, withHeld, takeByte, takeAll, SameRest, HeldUpTo, Passed, PassedUpTo, HeldLine, roomFor, hasRoom, refusedFor, takeCall}
+use Rattle.translator.specs.Intake.{Memory, headRoom, Taken, taken, Ready, endLine, withHeld, takeByte, takeAll, SameRest, HeldUpTo, Passed, noLf, block, halfBlock, quarterBlock, blockPasses, PassedUpTo, HeldLine, roomFor, hasRoom, refusedFor, takeCall}
 use Rattle.translator.specs.declared.intake.Intake.{Intake}
 use Rattle.translator.proofs.InPieces.{bytes-stay, byte-ends, byte-held, byte-passed}
 
@@ -67,6 +70,46 @@ module _ (bytes : List ℕ) (at held : ℕ) (line : List ℕ) where
               ∙ rest i m e;
         }
 
+-- ---- bytes without an LF
+
+and-true : (b : Bool) → b ≡ (b && true)
+and-true true = refl
+and-true false = refl
+
+and-turned : (a b c : Bool) → (a && b && c) ≡ (a && (b && c))
+and-turned true b c = refl
+and-turned false b c = refl
+
+module _ (bytes : List ℕ) (at : ℕ) where
+  no-lf-more : (m n : ℕ) → noLf bytes at (m + n) ≡ (noLf bytes at m && noLf bytes (at + m) n)
+  unfolding noLf
+  no-lf-more m zero = rw (add-zero m) (and-true (noLf bytes at m))
+  no-lf-more m (suc n) =
+      let place : at + (m + n) ≡ at + m + n = omega arith in
+      rw (add-suc m n)
+      (ap₂ (λ b k. b && not (eqb (getD bytes k 0) lf)) (no-lf-more m n) place ∙ and-turned (noLf bytes at m) (noLf bytes (at + m) n) _)
+
+  pub no-lf-quarter :
+      (not (eqb (getD bytes at 0) lf) && not (eqb (getD bytes (at + 1) 0) lf) && not (eqb (getD bytes (at + 2) 0) lf) && not (eqb (getD bytes (at + 3) 0) lf))
+      ≡ noLf bytes at quarterBlock
+  unfolding noLf
+  no-lf-quarter = rw (add-zero at)
+
+  module _ (a b : Bool) where
+    pub no-lf-half : a ≡ noLf bytes at quarterBlock → b ≡ noLf bytes (at + quarterBlock) quarterBlock → (a && b) ≡ noLf bytes at halfBlock
+    no-lf-half e f = ap₂ _&&_ e f ∙ sym (no-lf-more quarterBlock quarterBlock)
+
+    pub no-lf-block : a ≡ noLf bytes at halfBlock → b ≡ noLf bytes (at + halfBlock) halfBlock → (a && b) ≡ noLf bytes at block
+    no-lf-block e f = ap₂ _&&_ e f ∙ sym (no-lf-more halfBlock halfBlock)
+
+  pub no-block : at ≤ length bytes → length bytes - at < block → false ≡ blockPasses bytes at
+  unfolding blockPasses
+  no-block w h = ap (λ b. b && noLf bytes at block) (sym (lt-leb (at + block) (length bytes) (omega arith)))
+
+  pub block-passes : (r : Bool) → block ≤ length bytes - at → r ≡ noLf bytes at block → r ≡ blockPasses bytes at
+  unfolding blockPasses
+  block-passes r h e = e ∙ ap (λ b. b && noLf bytes at block) (sym (le-leb (at + block) (length bytes) (omega arith)))
+
 -- ---- bytes behind the first of a line
 
 module _ (bytes : List ℕ) (at : ℕ) where
@@ -84,6 +127,33 @@ module _ (bytes : List ℕ) (at : ℕ) where
 
     pub passed-to-end : at ≤ n → n ≤ length bytes → length bytes ≤ n → PassedUpTo bytes at n
     passed-to-end f w k = record { from = f; within = w; ends = λ z. absurd (omega arith); rest = passed }
+
+    pub passed-behind : at ≤ n → (end : ℕ) → PassedUpTo bytes n end → PassedUpTo bytes at end
+    unfolding Passed SameRest
+    passed-behind f end p =
+        record { from = omega (arith, p .from); within = p .within; ends = p .ends; rest = λ line i m e. p .rest line i m e ∙ passed line i m e }
+
+  passed-many : (n : ℕ) → Passed bytes at n → (count : ℕ) → n + count ≤ length bytes → noLf bytes n count ≡ true → Passed bytes at (n + count)
+  unfolding noLf
+  passed-many n passed zero k t = rw (add-zero n) passed
+  passed-many n passed (suc c) k t =
+      let others : noLf bytes n c ≡ true = and-left (noLf bytes n c) (not (eqb (getD bytes (n + c) 0) lf)) t in
+      let last : not (eqb (getD bytes (n + c) 0) lf) ≡ true = and-right (noLf bytes n c) (not (eqb (getD bytes (n + c) 0) lf)) t in
+      rw (add-suc n c, ← add-one (n + c))
+      (passed-byte (n + c) (passed-many n passed c (omega arith) others) (omega arith)
+      (λ e. clash (eq-eqb (getD bytes (n + c) 0) lf e) (not-true (eqb (getD bytes (n + c) 0) lf) last)))
+
+  module _ (n : ℕ) (r : Bool) (is : r ≡ blockPasses bytes n) (t : r ≡ true) where
+    pub block-within : n + block ≤ length bytes
+    unfolding blockPasses
+    block-within = leb-true (n + block) (length bytes) (and-left (leb (n + block) (length bytes)) (noLf bytes n block) (sym is ∙ t))
+
+    pub block-less : length bytes - (n + block) < length bytes - n
+    block-less = omega (arith, block-within)
+
+    pub passed-block : Passed bytes at n → Passed bytes at (n + block)
+    unfolding blockPasses
+    passed-block passed = passed-many n passed block block-within (and-right (leb (n + block) (length bytes)) (noLf bytes n block) (sym is ∙ t))
 
 -- ---- a line
 

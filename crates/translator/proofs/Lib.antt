@@ -2,6 +2,7 @@
 pub mod KeepLaws
 pub mod LineLaws
 pub mod ByteLaws
+pub mod GroupLaws
 pub mod RoomLaws
 pub mod EndLaws
 pub mod PositionLaws

@@ -1,8 +1,8 @@
 -- A text taken in: a line at a time, and in pieces of any length. The first bytes of a line are held, which decide it.
 -- Assumes nothing.
-use Prim.Native.Nat.{ℕ, _+_, _*_, _-_, _^_, _≤_, _<_, min}
+use Prim.Native.Nat.{ℕ, zero, suc, _+_, _*_, _-_, _^_, _≤_, _<_, min}
 use mathlib.Core.Path.{_≡_}
-use mathlib.Core.Bool.{Bool, cond, _&&_}
+use mathlib.Core.Bool.{Bool, true, not, cond, _&&_}
 use mathlib.Core.List.{List, [], _∷_, foldl}
 use lib.Dec.{leb, ltb, eqb}
 use lib.ListN.{length, getD, take, drop, set}
@@ -228,6 +228,24 @@ pub record PassedUpTo (bytes : List ℕ) (at end : ℕ) : Type 0 where
   pub within : end ≤ length bytes
   pub ends : end < length bytes → getD bytes end 0 ≡ lf
   pub rest : Passed bytes at end
+
+-- whether none of so many bytes from a place on is an LF
+unfoldable pub noLf : (bytes : List ℕ) (at count : ℕ) → Bool
+noLf bytes at zero = true
+noLf bytes at (suc m) = noLf bytes at m && not (eqb (getD bytes (at + m) 0) lf)
+
+-- how many bytes of a long line are looked at together
+abbrev pub block : ℕ
+block = 16
+
+abbrev pub halfBlock : ℕ
+halfBlock = 8
+
+abbrev pub quarterBlock : ℕ
+quarterBlock = 4
+
+unfoldable pub blockPasses : (bytes : List ℕ) (at : ℕ) → Bool
+blockPasses bytes at = leb (at + block) (length bytes) && noLf bytes at block
 
 -- a reading goes on so, and nothing but what is held changes
 pub record HeldLine (i : Intake) (line bytes : List ℕ) (at : ℕ) (then : Intake) (end : ℕ) (lineThen : List ℕ) : Type 0 where

@@ -1,8 +1,9 @@
 // A whole text in pieces: lines are read as they end; of the line that has begun, its first bytes are held, which decide it.
+use crate::facts::group_facts;
+use crate::holding::hold;
 use crate::lines::end_line;
 use crate::position::Position;
 use crate::position::first_position;
-use crate::room::HEAD_ROOM;
 use crate::room::has_room;
 use bodies::Kept;
 use rules::Refusal;
@@ -13,7 +14,7 @@ ghost use lib.ListN.{length, drop};
 ghost use Rattle.rules.specs.declared.Refusal.the-variants.{Room};
 ghost use Rattle.rules.specs.declared.Verdict.the-variants.{Refused};
 ghost use Rattle.bodies.specs.Keeping.{Sound};
-ghost use Rattle.translator.specs.Intake.{memory, headRoom, taken, Ready, withHeld, takeAll, HeldUpTo, PassedUpTo, HeldLine, refusedFor, takeCall, begun};
+ghost use Rattle.translator.specs.Intake.{memory, headRoom, taken, Ready, withHeld, takeAll, HeldLine, refusedFor, takeCall, begun};
 
 // How far a text is read: where in the format, how many lines, the first fault if there was one, what is kept, and how many bytes are held of the line
 // that has begun.
@@ -31,16 +32,10 @@ pub enum Translation {
     Refused(Refusal),
 }
 
-// How far the bytes of a line go, and how many are held then.
-struct Stop {
-    at: usize,
-    held: usize,
-}
-
 // A reading, and the next byte that it has not taken.
-struct Further {
-    reading: Intake,
-    at: usize,
+pub(crate) struct Further {
+    pub reading: Intake,
+    pub at: usize,
 }
 
 // No byte has been taken.
@@ -54,46 +49,6 @@ pub fn begin() -> Intake
         kept: bodies::nothing_kept(),
         held: 0,
     }
-}
-
-// Where the line that goes on at a place ends: at the next LF, or with the bytes.
-fn line_end(bytes: &[u8], at: usize) -> usize
-    requires { ⌜ at ≤ length (now bytes) ⌝ }
-    ensures { λ r. ⌜ PassedUpTo (now (bytes .entry)) at r ⌝ }
-{
-    let mut end = at;
-    while end < bytes.len() {
-        if bytes[end] == b'\n' {
-            return end;
-        }
-        end += 1;
-    }
-    end
-}
-
-// The bytes from a place on, up to an LF or the end; once the first are held, an LF is all that is looked for.
-fn hold(line: &mut [u8], held: usize, bytes: &[u8], at: usize) -> Stop
-    requires { ⌜ (held ≤ headRoom) × (headRoom ≤ length (now line)) × (at ≤ length (now bytes)) ⌝ }
-    ensures { λ r. ⌜ HeldUpTo (now (bytes .entry)) at held (now (line .entry)) (r .at) (r .held) (now (line .exit)) ⌝ }
-{
-    let mut i = at;
-    let mut h = held;
-    while i < bytes.len() {
-        if HEAD_ROOM <= h {
-            return Stop {
-                at: line_end(bytes, i),
-                held: h,
-            };
-        }
-        let b = bytes[i];
-        if b == b'\n' {
-            return Stop { at: i, held: h };
-        }
-        line[h] = b;
-        h += 1;
-        i += 1;
-    }
-    Stop { at: i, held: h }
 }
 
 fn with_held(state: Intake, held: usize) -> Intake
@@ -123,6 +78,15 @@ fn hold_line(state: Intake, line: &mut [u8], bytes: &[u8], at: usize) -> Further
     }
 }
 
+// The facts of a mutex group that come next are read, and the line behind them goes on.
+fn reach_line(state: Intake, line: &mut [u8], bytes: &[u8], at: usize) -> Further
+    requires { ⌜ (state .held ≤ headRoom) × (headRoom ≤ length (now line)) × (at ≤ length (now bytes)) ⌝ }
+    ensures { λ r. ⌜ HeldLine state (now (line .entry)) (now (bytes .entry)) at (r .reading) (r .at) (now (line .exit)) ⌝ }
+{
+    let behind = group_facts(state, line, bytes, at);
+    hold_line(behind.reading, line, bytes, behind.at)
+}
+
 // The bytes from a place on, up to the end of a line and with its LF.
 fn take_line(
     bytes: &[u8],
@@ -139,7 +103,7 @@ fn take_line(
     ensures fits { λ r. ⌜ Sound (r .reading .kept) × (r .reading .held ≤ headRoom) ⌝ }
     ensures further { λ r. ⌜ (at < r .at) × (r .at ≤ length (now (bytes .entry))) ⌝ }
 {
-    let whole = hold_line(state, line, bytes, at);
+    let whole = reach_line(state, line, bytes, at);
     let end = whole.at;
     if bytes.len() <= end {
         return whole;

@@ -1,5 +1,7 @@
 // The translator's text, read in pieces of any length in constant memory, and its task file.
 pub mod ending;
+mod facts;
+mod holding;
 pub mod intake;
 mod keeping;
 mod lines;

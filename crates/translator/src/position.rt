@@ -100,7 +100,7 @@ fn around(line: FormatLine, p: Position) -> Position
 }
 
 // A line is due m times.
-fn repeated(line: FormatLine, m: usize, p: Position) -> Position
+pub(crate) fn repeated(line: FormatLine, m: usize, p: Position) -> Position
     ensures { λ r. ⌜ r ≡ repeated line m p ⌝ }
 {
     Position {

@@ -1,18 +1,86 @@
--- `says` meets its contract: a mutex group's fact is a fact, and every other line is answered by its kind.
+-- `says` meets its contract: the arms are told apart, and each answers by its shape.
 -- Assumes nothing.
 use borrow.Author.Needs.{needs}
+use Rattle.rules.specs.Text.{ascii}
 use Rattle.textlines.specs.Says.{saysAs}
-use Rattle.textlines.proofs.ShapeLaws.{says-as}
+use Rattle.textlines.proofs.ShapeLaws.{name-says, nothing-says, number-says, fact-says, says-as}
 use Rattle.textlines.proofs.says.Statement.{statement}
 use Rattle.textlines.proofs.says.Tie as tie
 
 pub says-spec : {M : Type 1} → statement M
-unfolding saysAs
+unfolding saysAs ascii
 says-spec =
     tie.close
     (tie.spec
-    (λ c. search needs)
-    (λ c κs. search needs)
+    (λ c. search needs) (λ c. search needs) (λ c κs. search needs)
+    (λ c. search needs) (λ c κs. search needs)
+    (λ c. search needs) (λ c. search needs) (λ c κs. search needs)
+    (λ c. search needs) (λ c. search needs) (λ c κs. search needs)
+    (λ c. search needs) (λ c κs. search needs)
+    (λ c. search needs) (λ c. search needs) (λ c κs. search needs)
+    (λ c. search needs) (λ c κs. search needs)
+    (λ c. search needs) (λ c. search needs) (λ c κs. search needs)
+    (λ c. search needs) (λ c κs. search needs)
+    (λ c. search needs) (λ c κs. search needs)
+    (λ c. search needs) (λ c κs. search needs)
+    (λ c. search needs) (λ c κs. search needs)
+    (λ c. search needs) (λ c. search needs) (λ c κs. search needs)
+    (λ c. search needs) (λ c κs. search needs)
+    (λ c. search needs) (λ c. search needs) (λ c κs. search needs)
+    (λ c. search needs) (λ c κs. search needs)
+    (λ c. search needs) (λ c κs. search needs)
+    (λ c. search needs) (λ c. search needs) (λ c κs. search needs)
+    (λ c. search needs) (λ c. search needs) (λ c κs. search needs)
+    (λ c. search needs) (λ c κs. search needs)
+    (λ c. search needs) (λ c. search needs) (λ c κs. search needs)
+    (λ c. search needs) (λ c. search needs) (λ c κs. search needs)
+    (λ c. search needs) (λ c κs. search needs)
+    (λ c. search needs) (λ c κs. search needs)
+    (λ c. search needs) (λ c. search needs) (λ c κs. search needs)
+    (λ c. search needs) (λ c κs. search needs)
+    (λ c. search needs) (λ c. search needs) (λ c κs. search needs)
+    (λ c. search needs) (λ c κs. search needs)
+    (λ c. search needs) (λ c κs. search needs)
+    (λ c. search needs) (λ c κs. search needs)
+    (λ c. search needs) (λ c κs. search needs)
+    (λ c. search needs) (λ c κs. search needs)
+    (λ c. search needs) (λ c κs. search needs)
+    (λ c. search needs) (λ c. search needs) (λ c κs. search needs)
+    (λ c. search needs) (λ c κs. search needs)
+    (λ c. search needs) (λ c κs. search needs)
     (λ c. search (needs, says-as))
-    (λ c κs. search needs)
-    (λ c. search needs))
+    (λ c. search (needs, says-as))
+    (λ c. search (needs, says-as))
+    (λ c. search (needs, says-as))
+    (λ c. search (needs, says-as))
+    (λ c. search (needs, says-as))
+    (λ c. search (needs, says-as, number-says))
+    (λ c. search (needs, says-as))
+    (λ c. search (needs, says-as, name-says))
+    (λ c. search (needs, says-as))
+    (λ c. search (needs, says-as, number-says))
+    (λ c. search (needs, says-as, name-says))
+    (λ c. search (needs, says-as))
+    (λ c. search (needs, says-as, number-says))
+    (λ c. search (needs, says-as))
+    (λ c. search (needs, says-as, number-says))
+    (λ c. search (needs, says-as))
+    (λ c. search (needs, says-as))
+    (λ c. search (needs, says-as))
+    (λ c. search (needs, says-as, number-says))
+    (λ c. search (needs, says-as))
+    (λ c. search (needs, says-as))
+    (λ c. search (needs, says-as, number-says))
+    (λ c. search (needs, says-as, fact-says))
+    (λ c. search (needs, says-as))
+    (λ c. search (needs, says-as, number-says))
+    (λ c. search (needs, says-as))
+    (λ c. search (needs, says-as, name-says))
+    (λ c. search (needs, says-as, number-says))
+    (λ c. search (needs, says-as, fact-says))
+    (λ c. search (needs, says-as, number-says))
+    (λ c. search (needs, says-as))
+    (λ c. search (needs, says-as, number-says))
+    (λ c. search (needs, says-as))
+    (λ c. search (needs, says-as))
+    (λ c. search (needs, says-as, nothing-says)))

@@ -1,8 +1,8 @@
 -- `fact_line` meets its contract.
 -- Assumes nothing.
 use borrow.Author.Needs.{needs}
-use Rattle.textlines.proofs.ShapeLaws.{fact-against}
-use Rattle.textlines.proofs.FactLaws.{one-word-only, fact-by-sides}
+use Rattle.textlines.proofs.ShapeLaws.{fact-against, fact-right}
+use Rattle.textlines.proofs.FactLaws.{fact-plain-variable, fact-plain-value}
 use Rattle.textlines.proofs.shapes.fact_line.Statement.{statement}
 use Rattle.textlines.proofs.shapes.fact_line.Tie as tie
 
@@ -12,13 +12,7 @@ fact-line-spec =
     (tie.spec
     (λ c κs. search needs)
     (λ c κs. search needs)
-    (λ c. search (needs, fact-against, one-word-only))
-    (λ c. search needs)
-    (λ c. search needs)
-    (λ c. search needs)
-    (λ c. search needs)
-    (λ c. search needs)
-    (λ c. search needs)
-    (λ c. search needs)
-    (λ c κs. search needs)
-    (λ c. search (needs, fact-by-sides)))
+    (λ c. search (needs, fact-against))
+    (λ c κs. search (needs, fact-plain-variable))
+    (λ c κs. search (needs, fact-plain-value))
+    (λ c. search (needs, fact-right)))

@@ -1,12 +1,12 @@
--- `line_end` meets its contract: the bytes so far change nothing.
+-- `near_end` meets its contract: the bytes so far change nothing.
 -- Assumes nothing.
 use borrow.Author.Needs.{needs}
 use Prim.Native.Nat.{_-_, _≤_}
 use lib.ListN.{length}
 use Rattle.translator.specs.Intake.{Passed}
 use Rattle.translator.proofs.ByteLaws.{passed-none, passed-byte, passed-to-lf, passed-to-end}
-use Rattle.translator.proofs.intake.line_end.Statement.{statement}
-use Rattle.translator.proofs.intake.line_end.Tie as tie
+use Rattle.translator.proofs.holding.near_end.Statement.{statement}
+use Rattle.translator.proofs.holding.near_end.Tie as tie
 
 abbrev Inv-loop : tie.InvT-loop
 Inv-loop bytes at end₀ end = (at ≤ end) × (end ≤ length bytes) × Passed bytes at end
@@ -14,8 +14,8 @@ Inv-loop bytes at end₀ end = (at ≤ end) × (end ≤ length bytes) × Passed 
 abbrev μ-loop : tie.MeasureT-loop
 μ-loop bytes at end₀ end = length bytes - end
 
-pub line-end-spec : {M : Type 1} → statement M
-line-end-spec =
+pub near-end-spec : {M : Type 1} → statement M
+near-end-spec =
     tie.close
     (tie.spec
     Inv-loop

@@ -6,8 +6,8 @@ use Prim.Native.Nat.{_-_, _≤_}
 use lib.ListN.{length}
 use Rattle.translator.specs.Intake.{headRoom, SameRest}
 use Rattle.translator.proofs.ByteLaws.{rest-none, rest-held, up-to-lf, up-to-end, up-to-passed}
-use Rattle.translator.proofs.intake.hold.Statement.{statement}
-use Rattle.translator.proofs.intake.hold.Tie as tie
+use Rattle.translator.proofs.holding.hold.Statement.{statement}
+use Rattle.translator.proofs.holding.hold.Tie as tie
 
 abbrev Inv-loop : tie.InvT-loop
 Inv-loop line₀ held bytes at i₀ h₀ line i h = (length line ≡ length line₀) × (at ≤ i) × (i ≤ length bytes) × (h ≤ headRoom) × SameRest bytes at held line₀ i h line
