@@ -12,7 +12,6 @@ mod texts;
 use kinds::Kind;
 use kinds::Named;
 use libc::STDERR_FILENO;
-use output::feeding::LINE_ROOM;
 use replies::Reply;
 use rules::Reading;
 use stream::Number;
@@ -46,8 +45,7 @@ struct Call {
 
 enum Next {
     Case(Call),
-    End,
-    Broken,
+    Over,
 }
 
 fn complain(text: &[u8]) -> bool {
@@ -65,19 +63,25 @@ fn complain_writing() -> bool {
     complain(b"the answers cannot be written")
 }
 
+// The run is over, with a line on standard error.
+fn broken() -> Next {
+    complain(b"a case is cut off, or of a kind that is not answered here");
+    Next::Over
+}
+
 // The numbers of a case behind its kind.
 fn read_call(kind: Kind) -> Next {
     let Number::Is(horizon) = stream::read_number() else {
-        return Next::Broken;
+        return broken();
     };
     let Number::Is(asked) = stream::read_number() else {
-        return Next::Broken;
+        return broken();
     };
     let Number::Is(highest) = stream::read_number() else {
-        return Next::Broken;
+        return broken();
     };
     let Number::Is(phase_number) = stream::read_number() else {
-        return Next::Broken;
+        return broken();
     };
     let phase = replies::phase_of(phase_number);
     let reading = Reading { highest, phase };
@@ -94,15 +98,15 @@ fn read_next() -> Next {
     match stream::read_number() {
         Number::Is(number) => {
             let Named::Call(kind) = kinds::kind_of(number) else {
-                return Next::Broken;
+                return broken();
             };
             read_call(kind)
         }
         Number::CutAfter(bytes) => {
             if bytes == 0 {
-                return Next::End;
+                return Next::Over;
             }
-            Next::Broken
+            broken()
         }
     }
 }
@@ -117,7 +121,6 @@ fn reply(
     given: &mut [u64],
     truth: &mut [u64],
     entries: &mut [u32],
-    line: &mut [u8],
 ) -> Reply {
     let kind = call.kind;
     let horizon = call.horizon;
@@ -134,7 +137,7 @@ fn reply(
         Kind::Start => readings::start(file, horizon, given, truth),
         Kind::Line => readings::line(reading, given, truth, text),
         Kind::FoldLines => readings::fold(reading, given, truth, text),
-        Kind::Output => readings::output(reading, asked, given, truth, line, text),
+        Kind::Output => readings::output(reading, asked, given, truth, text),
         Kind::End => replies::judged(checker::end::finish(
             file,
             horizon,
@@ -170,30 +173,16 @@ fn write_rows(given: &[u64], truth: &[u64], entries: &[u32], raw: &mut [u8]) -> 
     stream::write_entries(raw, entries)
 }
 
-// The call, and its answer: its numbers, all lent memory after the call, and no printed line.
-fn answer(
-    call: Call,
-    file: &[u8],
-    text: &[u8],
-    room: &mut [u8],
-    literals: &mut [i32],
-    given: &mut [u64],
-    truth: &mut [u64],
-    entries: &mut [u32],
-    line: &mut [u8],
+// An answer: its numbers, all lent memory after the call, and no printed line.
+fn write_answer(
+    reply: Reply,
+    room: &[u8],
+    literals: &[i32],
+    given: &[u64],
+    truth: &[u64],
+    entries: &[u32],
     raw: &mut [u8],
 ) -> bool {
-    let reply = reply(
-        call,
-        file,
-        text,
-        room,
-        literals,
-        given,
-        truth,
-        entries,
-        line,
-    );
     if !write_reply(reply) {
         return complain_writing();
     }
@@ -206,8 +195,8 @@ fn answer(
     stream::write_number(0)
 }
 
-// Reads the schedule, and answers.
-fn with_schedule(
+// The call, and its answer.
+fn answer(
     call: Call,
     file: &[u8],
     text: &[u8],
@@ -216,28 +205,13 @@ fn with_schedule(
     given: &mut [u64],
     truth: &mut [u64],
     entries: &mut [u32],
-    line: &mut [u8],
     raw: &mut [u8],
 ) -> bool {
-    let e = stream::read_entries(raw, entries);
-    if entries.len() < e {
-        return complain_width();
-    }
-    answer(
-        call,
-        file,
-        text,
-        room,
-        literals,
-        given,
-        truth,
-        &mut entries[..e],
-        line,
-        raw,
-    )
+    let reply = reply(call, file, text, room, literals, given, truth, entries);
+    write_answer(reply, room, literals, given, truth, entries, raw)
 }
 
-// Reads the rows, and goes on.
+// Reads the rows and the schedule, and answers.
 fn with_rows(
     call: Call,
     file: &[u8],
@@ -247,7 +221,6 @@ fn with_rows(
     given: &mut [u64],
     truth: &mut [u64],
     entries: &mut [u32],
-    line: &mut [u8],
     raw: &mut [u8],
 ) -> bool {
     let g = stream::read_words(raw, given);
@@ -258,7 +231,11 @@ fn with_rows(
     if truth.len() < t {
         return complain_width();
     }
-    with_schedule(
+    let e = stream::read_entries(raw, entries);
+    if entries.len() < e {
+        return complain_width();
+    }
+    answer(
         call,
         file,
         text,
@@ -266,8 +243,7 @@ fn with_rows(
         literals,
         &mut given[..g],
         &mut truth[..t],
-        entries,
-        line,
+        &mut entries[..e],
         raw,
     )
 }
@@ -282,7 +258,6 @@ fn with_rooms(
     given: &mut [u64],
     truth: &mut [u64],
     entries: &mut [u32],
-    line: &mut [u8],
     raw: &mut [u8],
 ) -> bool {
     let r = stream::read_bytes(room);
@@ -302,14 +277,12 @@ fn with_rooms(
         given,
         truth,
         entries,
-        line,
         raw,
     )
 }
 
-// Reads the file and the text, and goes on.
-fn with_texts(
-    call: Call,
+// One case; whether there may be another. Reads its numbers, the file and the text, and goes on.
+fn turn(
     file: &mut [u8],
     text: &mut [u8],
     room: &mut [u8],
@@ -317,9 +290,11 @@ fn with_texts(
     given: &mut [u64],
     truth: &mut [u64],
     entries: &mut [u32],
-    line: &mut [u8],
     raw: &mut [u8],
 ) -> bool {
+    let Next::Case(call) = read_next() else {
+        return false;
+    };
     let f = stream::read_bytes(file);
     if file.len() < f {
         return complain_width();
@@ -337,39 +312,8 @@ fn with_texts(
         given,
         truth,
         entries,
-        line,
         raw,
     )
-}
-
-// One case; whether there may be another.
-fn turn(
-    file: &mut [u8],
-    text: &mut [u8],
-    room: &mut [u8],
-    literals: &mut [i32],
-    given: &mut [u64],
-    truth: &mut [u64],
-    entries: &mut [u32],
-    line: &mut [u8],
-    raw: &mut [u8],
-) -> bool {
-    match read_next() {
-        Next::End => false,
-        Next::Broken => complain(b"a case is cut off, or of a kind that is not answered here"),
-        Next::Case(call) => with_texts(
-            call,
-            file,
-            text,
-            room,
-            literals,
-            given,
-            truth,
-            entries,
-            line,
-            raw,
-        ),
-    }
 }
 
 fn main() {
@@ -380,7 +324,6 @@ fn main() {
     let mut given = [0u64; ROW_WORDS];
     let mut truth = [0u64; ROW_WORDS];
     let mut entries = [0u32; ENTRIES];
-    let mut line = [0u8; LINE_ROOM];
     let mut raw = [0u8; RAW_BYTES];
     // a count that falls: nothing says that standard input ends
     let mut turns = MOST_TURNS;
@@ -393,7 +336,6 @@ fn main() {
             &mut given,
             &mut truth,
             &mut entries,
-            &mut line,
             &mut raw,
         )
     {

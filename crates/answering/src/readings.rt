@@ -2,6 +2,7 @@
 use crate::replies;
 use crate::replies::Reply;
 use output::feeding;
+use output::feeding::LINE_ROOM;
 use rules::LineAnswer;
 use rules::Reading;
 ghost use Prim.Native.Nat.{_≤_, _<_};
@@ -89,15 +90,15 @@ pub fn output(
     size: usize,
     given: &mut [u64],
     truth: &mut [u64],
-    line: &mut [u8],
     text: &[u8],
 ) -> Reply {
+    let mut line = [0u8; LINE_ROOM];
     let mut state = feeding::begin(reading);
     let mut at = 0;
     while at < text.len() {
         let end = piece_end(at, size, text.len());
-        state = feeding::take_bytes(state, given, truth, line, &text[at..end]);
+        state = feeding::take_bytes(state, given, truth, &mut line, &text[at..end]);
         at = end;
     }
-    reply(feeding::finish(state, given, truth, line))
+    reply(feeding::finish(state, given, truth, &line))
 }

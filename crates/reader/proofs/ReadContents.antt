@@ -74,6 +74,9 @@ module _ (file : List ℕ) where
 
 -- ---- bodies; a is where a row's body starts, b how long it is
 
+pub contents-fine : (file : List ℕ) (v : Verdict) → v ≡ contentsVerdict file → v ≡ Accepted → contentsVerdict file ≡ Accepted
+contents-fine file v e f = sym e ∙ f
+
 pub contents-there : (file : List ℕ) → contentsVerdict file ≡ Accepted → contentsBytes ≤ length file
 contents-there file h = accepted-contents file h .long-enough
 
@@ -97,7 +100,7 @@ module _ (whole part : RefT (List ℕ)) (v : Verdict) (e : v ≡ contentsVerdict
 
   module _ (f : v ≡ Accepted) where
     accepted : contentsVerdict (now whole) ≡ Accepted
-    accepted = sym e ∙ f
+    accepted = contents-fine (now whole) v e f
 
     pub none-zero : (b : ℕ) → b ≡ 0 → Stretch whole part 0 [] → IsAsked whole part b
     unfolding bodyAsked startAsked

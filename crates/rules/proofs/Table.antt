@@ -1,10 +1,10 @@
 -- The folder example: P1 to P12 of the rules as one table under one statement about the definitions.
 -- Assumes nothing.
-use mathlib.Core.Path.{_≡_, refl}
+use mathlib.Core.Path.{_≡_, refl, ap}
 use mathlib.Core.Bool.{true, false}
-use mathlib.Core.List.{List, [], _∷_, map}
+use mathlib.Core.List.{List, [], _∷_, _++_, map}
 use Prim.Native.Nat.{ℕ, suc, _-_}
-use lib.ListN.{length, getD, set, replicate}
+use lib.ListN.{length, getD, set, replicate, take}
 use Rattle.rules.specs.Counting.{sumTo, first, forEach, forPairs, when, every, any, joined}
 use Rattle.rules.specs.Limits.{maxLiterals}
 use Rattle.rules.specs.Answers.{judge, answerTo}
@@ -14,7 +14,7 @@ use Rattle.rules.specs.Problem.{Problem}
 use Rattle.rules.specs.Numbering.{N, valueNumber, actionNumber}
 use Rattle.rules.specs.Families.{C, clause, formula, families, family1, family2, family3, family4, family5, family6, family7, family8, supporters}
 use Rattle.rules.specs.Text.{ascii, decimalUpTo, decimal, literalText, clauseLine}
-use Rattle.rules.specs.Rows.{packed, bitOfVariable}
+use Rattle.rules.specs.Rows.{Rows, packed, bitOfVariable}
 use Rattle.rules.specs.Truth.{literalTrue, clauseTrue}
 use Rattle.rules.specs.Walk.{startState, holds, applies, setPairs, apply, stateAt, scheduleRules}
 use Rattle.rules.specs.Readings.{valueBits, actionBits, assignmentOf}
@@ -54,11 +54,14 @@ trueVariables k schedule =
     let bits = assignmentOf (folderAt k) schedule in
     forEach (length bits) (λ i. when (getD bits i false) (suc i ∷ []))
 
--- the end of a reading that gave the model of a schedule with one variable false
+-- the rows of the model of a schedule with one variable false
+abbrev pub rowsWithFalse : ℕ → List ℕ → ℕ → Rows
+rowsWithFalse k schedule v =
+    record { given = packed (replicate (N (folderAt k)) true); isTrue = packed (set (assignmentOf (folderAt k) schedule) (v - 1) false) }
+
+-- the end of a reading that gave this model
 abbrev pub endWithFalse : ℕ → List ℕ → ℕ → List ℕ
-endWithFalse k schedule v =
-    told (outcome (folderAt k) ModelClosed
-    (record { given = packed (replicate (N (folderAt k)) true); isTrue = packed (set (assignmentOf (folderAt k) schedule) (v - 1) false) }))
+endWithFalse k schedule v = told (outcome (folderAt k) ModelClosed (rowsWithFalse k schedule v))
 
 -- ---- the table
 
@@ -86,6 +89,12 @@ rows =
     ∷ row (endWithFalse 2 (1 ∷ 2 ∷ []) 16 ∷ []) ((17 ∷ 2 ∷ []) ∷ [])  -- P12
     ∷ []
 
+-- P12's rows as words, since the end would compute them anew for each literal
+last-rows : rowsWithFalse 2 (1 ∷ 2 ∷ []) 16 ≡ record { given = 65535 ∷ []; isTrue = 6549 ∷ [] }
+unfolding
+    sumTo forEach taskOf body pairsAt actionIn restsUpTo rests N packed startState setPairs apply stateAt valueBits actionBits assignmentOf problemOf folder
+last-rows = refl
+
 pub all-rows : map (λ r. r .asked) rows ≡ map (λ r. r .right) rows
 unfolding
     sumTo first forEach forPairs every any joined judge
@@ -95,4 +104,4 @@ unfolding
     ascii decimalUpTo decimal literalText clauseLine packed bitOfVariable literalTrue clauseTrue
     startState holds applies setPairs apply stateAt scheduleRules valueBits actionBits assignmentOf modelRules outcome
     problemOf problemRules clauseRules clauseVerdict allRows inOrder goodSchedules folder
-all-rows = refl
+all-rows = ap (λ words. map (λ r. r .asked) (take 12 rows) ++ ((told (outcome (folderAt 2) ModelClosed words) ∷ []) ∷ [])) last-rows

@@ -8,10 +8,10 @@ use Rattle.answering.proofs.readings.output.Statement.{statement}
 use Rattle.answering.proofs.readings.output.Tie as tie
 
 abbrev Inv-loop : tie.InvT-loop
-Inv-loop size given₀ truth₀ line₀ text state₀ at₀ given truth line state at = (length given ≡ length given₀) × (length truth ≡ length truth₀) × (length line ≡ length line₀) × (at ≤ length text)
+Inv-loop size given₀ truth₀ text line₀ state₀ at₀ given truth line state at = (length given ≡ length given₀) × (length truth ≡ length truth₀) × (4097 ≡ length line) × (at ≤ length text)
 
 abbrev μ-loop : tie.MeasureT-loop
-μ-loop size given₀ truth₀ line₀ text state₀ at₀ given truth line state at = length text - at
+μ-loop size given₀ truth₀ text line₀ state₀ at₀ given truth line state at = length text - at
 
 pub output-spec : {M : Type 1} → statement M
 output-spec =
@@ -25,12 +25,13 @@ output-spec =
     (λ c. search needs)
     (λ c. search needs)
     (λ c. search needs)
+    (λ c. search needs)
     (λ c κs. search needs)
     (λ c. search needs)
     (λ c. search needs)
-    (λ c κs. search needs)
-    (λ c κs. search needs)
     (λ c. search needs)
+    (λ c κs. search needs)
+    (λ c κs. search needs)
     (λ c. search needs)
     (λ c. search needs)
     (λ c. search needs))

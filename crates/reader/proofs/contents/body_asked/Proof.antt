@@ -2,7 +2,7 @@
 -- Assumes nothing.
 use borrow.Author.Needs.{needs}
 use native.Mathlib.Omega.{arith}
-use Rattle.reader.proofs.ReadContents.{none-refused, none-zero, none-above, one-asked}
+use Rattle.reader.proofs.ReadContents.{contents-fine, none-refused, none-zero, none-above, one-asked}
 use Rattle.reader.proofs.contents.body_asked.Statement.{statement}
 use Rattle.reader.proofs.contents.body_asked.Tie as tie
 
@@ -20,5 +20,5 @@ body-asked-spec =
     (λ c κs. search needs)
     (λ c. search (needs, none-above))
     (λ c. search needs)
-    (λ c κs. (cc, omega arith))
+    (λ c κs. (search (needs, contents-fine), omega arith))
     (λ c. search (needs, one-asked)))

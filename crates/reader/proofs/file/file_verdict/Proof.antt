@@ -1,7 +1,7 @@
 -- `file_verdict` meets its contract.
 -- Assumes nothing.
 use borrow.Author.Needs.{needs}
-use native.Mathlib.Omega.{arith}
+use Rattle.reader.proofs.ReadContents.{contents-fine}
 use Rattle.reader.proofs.ReadFile.{contents-wrong, contents-right}
 use Rattle.reader.proofs.file.file_verdict.Statement.{statement}
 use Rattle.reader.proofs.file.file_verdict.Tie as tie
@@ -14,9 +14,9 @@ file-verdict-spec =
     (λ c. search needs)
     (λ c. search needs)
     (λ c. search (needs, contents-wrong))
-    (λ c κs. (cc, omega arith))
-    (λ c κs. (cc, omega arith))
-    (λ c κs. (cc, omega arith))
-    (λ c κs. (cc, omega arith))
+    (λ c κs. search (needs, contents-fine))
+    (λ c κs. search (needs, contents-fine))
+    (λ c κs. search (needs, contents-fine))
+    (λ c κs. search (needs, contents-fine))
     (λ c κs. search needs)
     (λ c. search (needs, contents-right)))

@@ -1,15 +1,19 @@
--- `with_texts` is safe and ends.
+-- `turn` is safe and ends.
 -- Assumes nothing.
 use borrow.Author.Needs.{needs}
 use Rattle.answering.proofs.Laws.{prefix-length}
-use Rattle.answering.proofs.with_texts.Statement.{statement}
-use Rattle.answering.proofs.with_texts.Tie as tie
+use Rattle.answering.proofs.turn.Statement.{statement}
+use Rattle.answering.proofs.turn.Tie as tie
 
-pub with-texts-spec : {M : Type 1} → statement M
-with-texts-spec =
+pub turn-spec : {M : Type 1} → statement M
+turn-spec =
     tie.close
     (tie.spec
     (λ c κs. search needs)
+    (λ c. search needs)
+    (λ c. search needs)
+    (λ c. search needs)
+    (λ c κs. search needs)
     (λ c κs. search needs)
     (λ c. search needs)
     (λ c. search needs)
@@ -23,7 +27,6 @@ with-texts-spec =
     (λ c. search needs)
     (λ c. search (needs, prefix-length))
     (λ c κs. search needs)
-    (λ c. search needs)
     (λ c. search needs)
     (λ c. search needs)
     (λ c. search needs)
