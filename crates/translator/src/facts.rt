@@ -6,14 +6,13 @@ use crate::lines::one_more;
 use crate::position::repeated;
 use rules::FormatLine;
 use rules::Verdict;
-ghost use mathlib.Core.Bool.{_&&_};
 ghost use mathlib.Core.Path.{_≡_};
 ghost use Prim.Native.Nat.{_≤_, _<_};
-ghost use lib.Dec.{ltb};
-ghost use lib.ListN.{length, take};
-ghost use Rattle.textlines.specs.Says.{isFact};
+ghost use lib.ListN.{length};
+ghost use Rattle.rules.specs.declared.FormatLine.the-variants.{MutexFact};
+ghost use Rattle.rules.specs.declared.Verdict.the-variants.{Accepted};
 ghost use Rattle.translator.specs.Intake.{headRoom};
-ghost use Rattle.translator.specs.Facts.{amongFacts, oneRead, FactsRead, FactsTaken};
+ghost use Rattle.translator.specs.Facts.{amongFacts, oneRead, factEnds, AllRead, FactsTaken};
 
 // How far the facts of a group are read: the next byte that is not taken, how many bytes of a line are held, how many facts are left, how many lines
 // were read.
@@ -27,7 +26,7 @@ pub(crate) struct Facts {
 // Whether what is held is a fact and ends at a place.
 fn fact_ends(line: &[u8], held: usize, bytes: &[u8], at: usize) -> bool
     requires { ⌜ (held ≤ headRoom) × (headRoom ≤ length (now line)) ⌝ }
-    ensures { λ r. ⌜ r ≡ (ltb at (length (now (bytes .entry))) && isFact (take held (now (line .entry)))) ⌝ }
+    ensures { λ r. ⌜ r ≡ factEnds (now (bytes .entry)) at held (now (line .entry)) ⌝ }
 {
     if bytes.len() <= at {
         return false;
@@ -51,7 +50,7 @@ fn one_read(facts: Facts, next: usize) -> Facts
 // As many facts as come next; a line that has not ended or is none is held and not judged.
 fn read_facts(line: &mut [u8], bytes: &[u8], first: Facts) -> Facts
     requires { ⌜ (first .held ≤ headRoom) × (headRoom ≤ length (now line)) × (first .at ≤ length (now bytes)) ⌝ }
-    ensures { λ r. ⌜ FactsRead (now (bytes .entry)) first (now (line .entry)) r (now (line .exit)) ⌝ }
+    ensures { λ r. ⌜ AllRead (now (bytes .entry)) first (now (line .entry)) r (now (line .exit)) ⌝ }
 {
     let mut facts = first;
     while 0 < facts.left {
@@ -79,20 +78,13 @@ fn among_facts(state: Intake, facts: Facts) -> Intake
     }
 }
 
-// Where the facts of a mutex group are due, those that come next are read.
+// The facts of a mutex group that come next are read.
 pub(crate) fn group_facts(state: Intake, line: &mut [u8], bytes: &[u8], at: usize) -> Further
+    requires { ⌜ (state .verdict ≡ Accepted) × (state .position .line ≡ MutexFact) ⌝ }
     requires { ⌜ (state .held ≤ headRoom) × (headRoom ≤ length (now line)) × (at ≤ length (now bytes)) ⌝ }
     ensures { λ r. ⌜ FactsTaken state (now (line .entry)) (now (bytes .entry)) at (r .reading) (r .at) (now (line .exit)) ⌝ }
 {
-    let verdict = state.verdict;
-    let Verdict::Accepted = verdict else {
-        return Further { reading: state, at };
-    };
     let position = state.position;
-    let due = position.line;
-    let FormatLine::MutexFact = due else {
-        return Further { reading: state, at };
-    };
     let first = Facts {
         at,
         held: state.held,

@@ -6,6 +6,7 @@ use crate::position::Position;
 use crate::position::first_position;
 use crate::room::has_room;
 use bodies::Kept;
+use rules::FormatLine;
 use rules::Refusal;
 use rules::Verdict;
 ghost use mathlib.Core.Path.{_≡_};
@@ -78,11 +79,20 @@ fn hold_line(state: Intake, line: &mut [u8], bytes: &[u8], at: usize) -> Further
     }
 }
 
-// The facts of a mutex group that come next are read, and the line behind them goes on.
+// Where the facts of a mutex group are due, those that come next are read; the line behind them goes on.
 fn reach_line(state: Intake, line: &mut [u8], bytes: &[u8], at: usize) -> Further
     requires { ⌜ (state .held ≤ headRoom) × (headRoom ≤ length (now line)) × (at ≤ length (now bytes)) ⌝ }
     ensures { λ r. ⌜ HeldLine state (now (line .entry)) (now (bytes .entry)) at (r .reading) (r .at) (now (line .exit)) ⌝ }
 {
+    let verdict = state.verdict;
+    let Verdict::Accepted = verdict else {
+        return hold_line(state, line, bytes, at);
+    };
+    let position = state.position;
+    let due = position.line;
+    let FormatLine::MutexFact = due else {
+        return hold_line(state, line, bytes, at);
+    };
     let behind = group_facts(state, line, bytes, at);
     hold_line(behind.reading, line, bytes, behind.at)
 }

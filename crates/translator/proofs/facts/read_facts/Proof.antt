@@ -4,7 +4,7 @@ use borrow.Author.Needs.{needs}
 use mathlib.Core.Path.{_≡_}
 use lib.ListN.{length}
 use Rattle.translator.specs.Facts.{FactsRead}
-use Rattle.translator.proofs.GroupLaws.{facts-none, facts-held, fact-within, one-less, facts-next}
+use Rattle.translator.proofs.GroupLaws.{facts-none, none-left, facts-stop, fact-within, one-less, facts-next}
 use Rattle.translator.proofs.facts.read_facts.Statement.{statement}
 use Rattle.translator.proofs.facts.read_facts.Tie as tie
 
@@ -24,10 +24,10 @@ read-facts-spec =
     (λ c κs. search needs)
     (λ c κs. search needs)
     (λ c. search needs)
-    (λ c. search (needs, facts-held))
+    (λ c. search (needs, facts-stop))
     (λ c. search (needs, fact-within))
     (λ c κs. search needs)
     (λ c. search (needs, one-less))
     (λ c. search (needs, facts-next))
     (λ c. search needs)
-    (λ c. search needs))
+    (λ c. search (needs, none-left)))
