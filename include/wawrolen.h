@@ -36,8 +36,8 @@ enum { WAWROLEN_FILE_ROOM = 17808 };
 /* The room that wawrolen_read_bytes needs for a line: one byte more than a line may have. */
 enum { WAWROLEN_LINE_ROOM = 4097 };
 
-/* The most stack that a call takes, in bytes. It is measured, on the largest inputs (test/stacks.c), and not proved. */
-enum { WAWROLEN_STACK = 24576 };
+/* No call takes more stack, in bytes. That is measured, on the largest inputs (test/stacks.c), and not proved. */
+enum { WAWROLEN_STACK = 20480 };
 
 /* ---- task files */
 

@@ -31,6 +31,7 @@ enum {
     LINE_BYTES = 4096,
     FOUR_DIGITS = 1000,
     LINES_ROOM = 65536,
+    SHORT_ROOM = 16, /* for a line of two literals and no longer one */
     HIGHEST = HORIZON * (VALUES + ACTIONS) + VALUES,
     WORDS = HIGHEST / 64
 };
@@ -220,6 +221,10 @@ static void call_clause_line(void) {
     refused |= wawrolen_clause_line(asked.file, asked.length, HORIZON, asked.clause, byte_room, LINES_ROOM, &first_cell, &detail_cell);
 }
 
+static void call_short_line(void) {
+    refused |= wawrolen_clause_line(asked.file, asked.length, HORIZON, asked.clause, byte_room, SHORT_ROOM, &first_cell, &detail_cell);
+}
+
 static void call_lines(void) {
     refused |= wawrolen_lines(asked.file, asked.length, HORIZON, asked.clause, byte_room, LINES_ROOM, &first_cell, &second_cell, &detail_cell);
 }
@@ -267,7 +272,9 @@ static void call_check_schedule(void) {
 
 enum {
     FEW = 4,
-    PAIR_STACK = 256 /* some registers and no more: 513 starts of two bytes each would be 1,026 */
+    PAIR_STACK = 256, /* some registers and no more: 513 starts of two bytes each would be 1,026 */
+    INDEX_NUMBERS = 2 * (VARIABLES + 1) + 3 * (ACTIONS + 1) + 1,
+    CLAUSE_STACK = 2 * INDEX_NUMBERS + 512 /* the file's index, two bytes a number, and nothing else of its size */
 };
 
 /* a task of one variable and of actions without pairs, in as few bytes as the rules allow */
@@ -323,11 +330,13 @@ static struct taken taken_by_pair(struct pair pair) {
     size_t before = ask_pair(pair);
     struct taken taken = taken_by(call_literals);
     pair_case(pair, "its literals", is_pair(pair, before));
-    struct taken by_line = taken_by(call_clause_line);
+    pair_case(pair, "no more stack than the index and some registers", taken.depth <= CLAUSE_STACK);
+    struct taken by_line = taken_by(call_clause_line), by_short_line = taken_by(call_short_line);
     asked.clause = 0;
     pair_case(pair, "hardly more stack than a clause of family 1", hardly_more(taken, taken_by(call_literals)));
     pair_case(pair, "hardly more stack than the counts", hardly_more(taken, taken_by(call_counts)));
     pair_case(pair, "as a line, hardly more stack than a clause of family 1", hardly_more(by_line, taken_by(call_clause_line)));
+    pair_case(pair, "as a line in short room, hardly more stack than a clause of family 1", hardly_more(by_short_line, taken_by(call_short_line)));
     return taken;
 }
 
@@ -359,6 +368,7 @@ struct export {
     void (*call)(void);
 };
 
+/* in an order in which each call finds what it needs: wawrolen_end_reading reads the rows that wawrolen_way_back wrote */
 static const struct export EXPORTS[] = {
     {"wawrolen_check_file", call_check_file},
     {"wawrolen_body", call_body},

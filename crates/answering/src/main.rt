@@ -15,8 +15,6 @@ use libc::STDERR_FILENO;
 use replies::Reply;
 use rules::Reading;
 use stream::Number;
-ghost use Prim.Native.Nat.{_*_, _≤_};
-ghost use lib.ListN.{length};
 
 const FILE_BYTES: usize = 32768;
 

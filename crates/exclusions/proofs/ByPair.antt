@@ -1,6 +1,6 @@
 -- The lines of pairs in order: those with one first number are a row, and the pair behind a row begins the next.
 -- Assumes nothing.
-use mathlib.Core.Path.{_≡_, refl, sym, ap, _∙_}
+use mathlib.Core.Path.{_≡_, refl, ap, _∙_}
 use mathlib.Core.Logic.{⊎-elim}
 use mathlib.Core.List.{List, [], _∷_, _++_}
 use Prim.Native.Nat.{ℕ, suc, _+_, _-_, _*_, _≤_, _<_}
@@ -15,7 +15,7 @@ use Rattle.rules.specs.Text.{clauseLine}
 use Rattle.rules.proofs.Bools.{below-or}
 use Rattle.rules.proofs.Counting.{forEach-ext}
 use Rattle.rules.proofs.Counts.{pairs-all}
-use Rattle.rules.proofs.Pairs.{PairAt, pairs-next, pair-exists, getD-pairs}
+use Rattle.rules.proofs.Pairs.{PairAt, pairs-next, getD-pairs}
 use Rattle.digits.specs.Over.{Wrote}
 use Rattle.digits.proofs.Overs.{wrote-nothing, wrote-more}
 use Rattle.exclusions.specs.Exclusions.{exclusionText, rowText, exclusionLine, exclusionLines, pairRoom}
@@ -23,26 +23,10 @@ use Rattle.exclusions.proofs.Adding.{forEach-add}
 
 -- ---- a row
 
--- a pair by its number, and the line of that pair
-pub number-of-pair : (count r i j : ℕ) → PairAt count r i j → numberOfPair count i j ≡ r
-number-of-pair count r i j p = sym (p .is)
-
+-- the line of a pair
 pub pair-line : (base count r i j : ℕ) → PairAt count r i j → exclusionLine base count r ≡ exclusionText (base + i) (base + j)
 unfolding exclusionLine exclusionText
 pair-line base count r i j p = ap clauseLine (getD-pairs count (λ i j. minus (base + i) ∷ minus (base + j) ∷ []) [] r i j p)
-
--- lines that are, number by number, those of the pairs from one of them on
-pub lines-of-pairs : (base count from lines : ℕ) (line : ℕ → List ℕ) → from + lines ≤ pairsBelow count
-    → ((r i j : ℕ) → r < lines → PairAt count (from + r) i j → line r ≡ exclusionText (base + i) (base + j))
-    → exclusionLines base count from lines ≡ forEach lines line
-unfolding exclusionLines
-lines-of-pairs base count from lines line h f =
-    forEach-ext lines (λ r. exclusionLine base count (from + r)) line (λ r l.
-    let p = pair-exists count (from + r) (within (pairsBelow count) r h l) in
-    pair-line base count (from + r) (p .0) (p .1) (p .2) ∙ sym (f r (p .0) (p .1) l (p .2)))
-  where
-    within : (all r : ℕ) → from + lines ≤ all → r < lines → from + r < all
-    within all r h l = omega arith
 
 -- the pairs behind (i, j) with the same first number
 pair-behind : (count from d i j r : ℕ) → i < j → j + r < count → from + d ≡ numberOfPair count i j → PairAt count (from + (d + r)) i (j + r)

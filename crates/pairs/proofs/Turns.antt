@@ -1,5 +1,5 @@
 -- In how many turns the pair behind a number is found. A loop's measure falls with each turn; that of `pair_of` is `halvings` of how far its two bounds are
--- apart, which starts at `halvings m` and is at most t wherever m is at most 2 to the t (`few-turns`).
+-- apart, and what it is before the first turn stands beside the proof (`turns` in `pair_of/Proof.antt`).
 -- Assumes nothing.
 use Prim.Native.Nat.{ℕ, _≤_}
 use native.Mathlib.Nat.{le-trans}
@@ -16,6 +16,6 @@ for-two-actions m h = few-turns m 9 (le-trans h (lit≤ tt))
 pub for-two-values : (m : ℕ) → m ≤ maxDomain → halvings m ≤ 6
 for-two-values m h = few-turns m 6 (le-trans h (lit≤ tt))
 
--- the variable of which they are, by `formula::search::row_of`, whose measure is the same
+-- the variable of which they are, by `formula::search::row_of`, whose measure is the same (`turns` in its proof)
 pub for-their-variable : (m : ℕ) → m ≤ maxVariables → halvings m ≤ 7
 for-their-variable m h = few-turns m 7 (le-trans h (lit≤ tt))

@@ -1,11 +1,12 @@
--- `pairs::pair_of` meets its contract. The loop's invariant: lo and hi bracket the first number of the pair. The measure, which falls with each turn, is how often
--- their distance can be halved: no more turns than the logarithm of m.
+-- `pairs::pair_of` meets its contract, and in how many turns (`turns`). The loop's invariant: lo and hi bracket the first number of the pair. The measure,
+-- which falls with each turn, is how often their distance can be halved.
 -- Assumes nothing.
-use Prim.Native.Nat.{_-_}
+use Prim.Native.Nat.{ℕ, _-_, _^_, _≤_}
+use native.Mathlib.Omega.{arith}
 use borrow.Author.Needs.{needs}
 use Rattle.rules.specs.Counts.{pairsBefore}
 use Rattle.pairs.specs.Halving.{halvings}
-use Rattle.pairs.proofs.Halving.{Bracket, bracket-down, bracket-up, half-sooner}
+use Rattle.pairs.proofs.Halving.{Bracket, bracket-down, bracket-up, half-sooner, few-turns}
 use Rattle.pairs.proofs.Pair.{pairs-start, begun-at, second-fits, pair-found}
 use Rattle.pairs.proofs.pair_of.Statement.{statement}
 use Rattle.pairs.proofs.pair_of.Tie as tie
@@ -15,6 +16,10 @@ Inv-loop m r lo₀ hi₀ lo hi = Bracket (pairsBefore m) m r lo hi
 
 abbrev μ-loop : tie.MeasureT-loop
 μ-loop m r lo₀ hi₀ lo hi = halvings (hi - lo)
+
+-- before the first turn the measure is at most the logarithm of m
+pub turns : (m r t : ℕ) → m ≤ 2 ^ t → μ-loop m r 0 m 0 m ≤ t
+turns m r t h = few-turns (m - 0) t (omega arith)
 
 pub pair-of-spec : {M : Type 1} → statement M
 pair-of-spec =
