@@ -1,6 +1,6 @@
 /* Times one clause of families 8 and 4, asked for by its number, and plain C's three ways from a number to its pair, after all of these clauses, and some
  * hundred pairs of each way, were held against nested loops. A call judges the whole file and fills its index, so a clause of family 1 of the same file, which
- * has no pair, is timed too, and what a pair takes is the time beyond it. Files have one variable and actions of two bytes, as few as the rules allow. */
+ * has no pair, is timed too: a pair takes at most the time beyond it. Files have one variable and actions of two bytes, as few as the rules allow. */
 #define _XOPEN_SOURCE 700
 #include "../include/wawrolen.h"
 
