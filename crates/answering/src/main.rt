@@ -2,6 +2,8 @@
 // lends, and writes the answer and all lent memory after the call to standard output. The streams are those of the second program, which
 // holds its own answers against these. A case that is cut off, or wider than the room here, ends the run with a line on standard error,
 // and the stream of answers stops before it.
+#![tactic(auto)]
+
 mod files;
 mod kinds;
 mod readings;

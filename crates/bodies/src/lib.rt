@@ -1,5 +1,7 @@
 // The four bodies of a task file, kept in lent memory as the lines of the translator's text come. A number that can be no byte is kept as 255, which
 // is outside every domain. What is kept has to be sound and the lent memory to have room: the callers see to both.
+#![tactic(auto)]
+
 mod in_order;
 
 ghost use Rattle.std.specs.Prelude.{◌≡◌, ◌≤◌, length};

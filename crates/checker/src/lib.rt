@@ -1,4 +1,6 @@
 // The checker of models: the lowest unmet clause, found on words, the schedule that a model states, and the end of a reading.
+#![tactic(auto)]
+
 mod bits;
 pub mod end;
 mod families;

@@ -1,6 +1,8 @@
 // The end of a reading on models of the folder example and of two other tasks. A line shows the refusal's number and detail, or 0 0, and
 // then the four entries that were lent: all 9 before the call. Four lines show how many models of all at a horizon are accepted, at two of them with all
 // that can be left out.
+#![tactic(auto)]
+
 ghost use Rattle.std.specs.Prelude.{◌<◌, ◌≤◌};
 
 use rules::{Phase, Reading, Verdict};

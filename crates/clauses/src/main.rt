@@ -1,5 +1,7 @@
 // The clause program: a horizon byte, then a task file, on standard input; the formula's text, or one line `refused N D`, on standard output.
 // All that it does here is to move bytes: `text` and `printing` promise which.
+#![tactic(auto)]
+
 ghost use Rattle.std.specs.Prelude.{◌≡◌, suc, ◌≤◌, length};
 ghost use Rattle.rules.specs.Limits.{max_horizon};
 ghost use Rattle.rules.specs.Families.{C};

@@ -1,4 +1,6 @@
 // Many lines "-p -q 0" at once: the clauses "not i, not j" for pairs i < j in order. These are nearly all lines of a large formula.
+#![tactic(auto)]
+
 mod exact;
 mod rows;
 mod texts;

@@ -1,5 +1,7 @@
 // Lines of pairs in rows that cross a power of ten, and a number that ends in 0; the least and the greatest numbers; one pair, no line,
 // and pairs from the middle on. Before and behind what is written two marks show how the lent room was.
+#![tactic(auto)]
+
 ghost use Rattle.std.specs.Prelude.{suc, ◌+◌, ◌≤◌, ◌<◌, length};
 ghost use Rattle.rules.specs.Limits.{max_n};
 ghost use Rattle.rules.specs.Counts.{pairs_below, number_of_pair};

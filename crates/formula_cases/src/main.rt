@@ -1,6 +1,8 @@
 // The folder example's formula, its counts and all its clauses, at horizons 0 to 3; the clause behind the last; horizons 64 and 65; lent
 // memory that is too short; files that are refused. After each call all lent words are shown: "?" is one as it was lent, "beyond" a
 // number that is not shown.
+#![tactic(auto)]
+
 ghost use Rattle.std.specs.Prelude.{◌≤◌, length};
 
 use formula::calls::{CountsAnswer, LiteralsAnswer};

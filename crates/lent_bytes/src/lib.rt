@@ -1,4 +1,6 @@
 // Bytes of lent memory by their place, where past the end every byte is 0; words and texts in them.
+#![tactic(auto)]
+
 pub mod texts;
 pub mod words;
 

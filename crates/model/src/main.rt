@@ -1,5 +1,7 @@
 // The model program: a horizon byte, the length of a task file in two bytes, the file and solver lines on standard input; the entries of the
 // schedule that the model states, one a line, or one line `refused N D`, on standard output. All that it does here is to move bytes.
+#![tactic(auto)]
+
 mod parts;
 
 ghost use Rattle.std.specs.Prelude.{◌≡◌, ◌≤◌, length};

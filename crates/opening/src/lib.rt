@@ -1,4 +1,6 @@
 // The start of a reading of solver output, from a task file and a horizon.
+#![tactic(auto)]
+
 ghost use Rattle.std.specs.Prelude.{◌≡◌};
 ghost use Rattle.rules.specs.Calls.{start_reading};
 ghost use Rattle.output.specs.Line.{lent, leaves};

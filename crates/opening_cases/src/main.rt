@@ -1,5 +1,7 @@
 // The start of a reading of the folder example. A line has the horizon and how many words of each row are lent, then the first reading
 // state, N and how far the reading is, or the refusal's number and detail, and both rows as they are left: words that are not written stay 7.
+#![tactic(auto)]
+
 ghost use Rattle.std.specs.Prelude.{◌≤◌};
 
 use libc::STDOUT_FILENO;

@@ -1,4 +1,6 @@
 // The reader of solver output: one line at a time, from the reading state and two lent rows of bits, or a whole output in pieces.
+#![tactic(auto)]
+
 pub mod feeding;
 mod numbers;
 mod status;

@@ -5,6 +5,8 @@
 // Any other line is read as a line of solver output, by the reading state that the lines before it left; a refused line leaves it. Where
 // it begins with "~" the line is what stands behind, with an LF for each other "~".
 // An answer is "next" and how far the reading is, or "refused", number and detail; then the first words of both rows.
+#![tactic(auto)]
+
 ghost use Rattle.std.specs.Prelude.{◌<◌, ◌≤◌, length};
 
 use libc::STDOUT_FILENO;

@@ -1,5 +1,7 @@
 // The pairs i < j below m in their order: how many there are, and from a pair to its number and back, without a table and without a walk over the pairs
 // before it.
+#![tactic(auto)]
+
 ghost use Rattle.std.specs.Prelude.{◌≡◌, ◌≤◌, ◌<◌};
 ghost use Rattle.rules.specs.Limits.{max_actions};
 ghost use Rattle.rules.specs.Counts.{pairs_below, pairs_before, PairAt};

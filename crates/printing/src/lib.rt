@@ -1,4 +1,6 @@
 // What the programs print, in lent room: the entries of a schedule, the line of a refusal.
+#![tactic(auto)]
+
 ghost use Rattle.std.specs.Prelude.{◌≡◌, ◌+◌, ◌*◌, ◌%◌, ◌≤◌, length};
 ghost use Rattle.rules.specs.Text.{digit0, decimal, refusal_line};
 ghost use Rattle.rules.specs.Programs.{schedule_text};

@@ -1,4 +1,6 @@
 // The reader of task files: refusals 1 to 7, and a body by its number.
+#![tactic(auto)]
+
 pub mod actions;
 pub mod checks;
 pub mod contents;

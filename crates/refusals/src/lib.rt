@@ -1,4 +1,6 @@
 // The number and the detail of a refusal, as the rules' table has them.
+#![tactic(auto)]
+
 ghost use Rattle.std.specs.Prelude.{◌≡◌};
 ghost use Rattle.rules.specs.Answers.{answer_of};
 

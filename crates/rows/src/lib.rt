@@ -1,4 +1,6 @@
 // Rows of bits in lent words: 64 to a word from the lowest bit up, variable 1 first.
+#![tactic(auto)]
+
 ghost use Rattle.std.specs.Prelude.{◌≡◌, ◌+◌, ◌-◌, ◌/◌, ◌%◌, ◌^◌, ◌<◌, ◌≤◌, min, length, get_or, replicate};
 ghost use Rattle.rules.specs.Rows.{word_bits, words_for, with_bit, bit_of_variable, with_variable, over_row};
 ghost use Rattle.rules.specs.Counting.{first};

@@ -43,6 +43,7 @@ RisesFrom x (p ∷ ps) = (x ≤ p.variable) × RisesFrom p.variable ps
 
 rising_from : (x : ℕ) (ps : List Pair) → RisesFrom x ps → Rising ps
 unfolding RisesFrom
+rising_from x [] r i l = elim l [ ]
 rising_from x (p ∷ []) r zero l = absurd (omega arith)
 rising_from x (p ∷ q ∷ ps) r zero l = r.1.0
 rising_from x (p ∷ ps) r (suc i) l = rising_from p.variable ps r.1 i (omega arith)

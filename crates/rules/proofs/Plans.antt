@@ -47,9 +47,9 @@ module _ (T : Task) where
       let start = and_left (leb e (A T) && entry_applies T e σ) (walks (after_entry T e σ) l) h in
       let rest : Follows (after_entry T e σ) l = follow (after_entry T e σ) l (and_right (leb e (A T) && entry_applies T e σ) (walks (after_entry T e σ) l) h) in
       record {
-        known = λ s. elim s [ zero ↦ λ b. leb-true _ _ (and_left (leb e (A T)) (entry_applies T e σ) start) | suc t ↦ λ b. rest.known t (omega arith) ];
+        known = λ s. elim s as (λ t. t < length (e ∷ l) → entry (e ∷ l) t ≤ A T) [ zero ↦ λ b. leb-true e (A T) (and_left (leb e (A T)) (entry_applies T e σ) start) | suc t ↦ λ b. rest.known t (omega arith) ];
         applying = λ s.
-            elim s [
+            elim s as (λ t. t < length (e ∷ l) → entry_applies T (entry (e ∷ l) t) (state_from σ (e ∷ l) t) ≡ true) [
               | zero ↦ λ b. and_right (leb e (A T)) (entry_applies T e σ) start
               | suc t ↦ λ b. ap (entry_applies T (entry l t)) (from_second σ e l t) ∙ rest.applying t (omega arith)
             ];

@@ -1,4 +1,5 @@
 // The types that all floors share. This crate has no functions: its definitions are in specs/, what is proved of them in proofs/.
+#![tactic(auto)]
 
 // Why a call refuses, in the order of the rules' table; what a variant holds is the refusal's detail.
 #[derive(Drop)]

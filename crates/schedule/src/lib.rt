@@ -1,4 +1,6 @@
 // Schedules: the verdict on one (refusals 20 to 22), and the way back from one to both rows of bits.
+#![tactic(auto)]
+
 mod back;
 mod walking;
 mod writing;

@@ -1,5 +1,7 @@
 // Schedules for the folder example, judged, and turned into rows. A line has the horizon and the entries, the verdict (0 0 is acceptance),
 // and then, for a way back, its verdict and both rows as they are left: words that are not written stay 7.
+#![tactic(auto)]
+
 ghost use Rattle.std.specs.Prelude.{◌≤◌};
 
 use libc::STDOUT_FILENO;

@@ -2,6 +2,8 @@
 // answers for each: the name; what refusals 1 and 2 say; what 1 to 7 say; the lengths of the bodies 0 to 5; and of an accepted file n, S, A
 // and the goal pairs, the start values with their formula numbers, the goal, and of each of the first actions its number, its preconditions
 // and its effects.
+#![tactic(auto)]
+
 ghost use Rattle.std.specs.Prelude.{◌≡◌, ◌+◌, ◌<◌, ◌≤◌, length};
 ghost use Rattle.rules.specs.Task.{n, A as actionCount};
 ghost use Rattle.rules.specs.File.{task_of, file_verdict};

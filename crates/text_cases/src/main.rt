@@ -1,6 +1,8 @@
 // The calls for text on the folder example, which is read from standard input: the header, single lines and runs of lines, in more room than they
 // need, in just enough, in a byte less and in none; the last clause and the one behind it; horizons 64 and 65; files that are refused. After each
 // call the whole lent room is shown: "?" is a byte as it was lent, "/" an LF.
+#![tactic(auto)]
+
 ghost use Rattle.std.specs.Prelude.{◌≤◌, length};
 
 use libc::{STDIN_FILENO, STDOUT_FILENO};

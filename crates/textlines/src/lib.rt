@@ -1,4 +1,6 @@
 // One line of the translator's text: whether it is what is due, and the numbers that it says.
+#![tactic(auto)]
+
 mod plain;
 mod shapes;
 mod words;

@@ -1,5 +1,7 @@
 // The translator program: the Fast Downward translator's text on standard input; the bytes of its task file, or one line `refused N D`, on
 // standard output. All that it does here is to move bytes.
+#![tactic(auto)]
+
 ghost use Rattle.std.specs.Prelude.{◌≡◌, ◌*◌, ◌≤◌, length};
 ghost use Rattle.rules.specs.Limits.{max_file};
 ghost use Rattle.translator.specs.Intake.{memory, Lent, head_room, taken, take_call, begun};

@@ -2,6 +2,8 @@
 // whole text by `translate`), the length of the text, four bytes each with the low byte first, and the text. The answer is the number in one byte, the
 // detail in eight, and the room after the call; before the call all its bytes are FILLED. A case that is cut off, or wider than the room here, ends the
 // stream of answers.
+#![tactic(auto)]
+
 ghost use Rattle.std.specs.Prelude.{◌≤◌, ◌<◌};
 
 use lent_bytes::number_at;

@@ -1,4 +1,6 @@
 // The translator's text, read in pieces of any length in constant memory, and its task file.
+#![tactic(auto)]
+
 pub mod ending;
 mod facts;
 mod holding;

@@ -1,4 +1,6 @@
 // The walk: the state is one record of 96 values, filled from the start body, that each move changes in place.
+#![tactic(auto)]
+
 ghost use Rattle.std.specs.Prelude.{◌≡◌, ◌+◌, ◌*◌, ◌<◌, ◌^◌, set};
 ghost use Rattle.rules.specs.Counting.{every};
 ghost use Rattle.rules.specs.Limits.{pair_bytes};

@@ -1,6 +1,8 @@
 // Walks of its own. Before each action a line says whether it applies, then the state that it finds; an action that does not apply
 // is carried out all the same. A state is shown by the first unmet goal pair, the first four values, and how many values behind them
 // are not 0.
+#![tactic(auto)]
+
 ghost use Rattle.std.specs.Prelude.{◌<◌, length};
 
 const SHOWN: usize = 4;

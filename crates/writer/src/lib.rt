@@ -1,4 +1,6 @@
 // Writes a task file from its four bodies.
+#![tactic(auto)]
+
 ghost use Rattle.std.specs.Prelude.{◌≡◌, ◌++◌, ◌+◌, ◌*◌, ◌≤◌, ◌<◌, length};
 ghost use Rattle.rules.specs.Limits.{byte_values, number_bytes, row_bytes, contents_bytes, max_file};
 ghost use Rattle.rules.specs.File.{bytes16};

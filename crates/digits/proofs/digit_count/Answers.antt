@@ -1,0 +1,14 @@
+-- Assumes nothing.
+use Prim.Native.Nat.{◌-◌}
+use borrow.Author.Rules.{rules}
+use Rattle.digits.proofs.Writing.{count_start, count_more, count_end}
+use Rattle.digits.proofs.digit_count.Goals as goal
+
+pub loop-past-init : goal.loop-past-init
+loop-past-init c = search (rules, count_start)
+
+pub loop-past-preserved : goal.loop-past-preserved
+loop-past-preserved c = search (rules, count_more)
+
+pub returns : goal.returns
+returns c = search (rules, count_end)

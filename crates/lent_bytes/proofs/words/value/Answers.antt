@@ -1,0 +1,17 @@
+-- Assumes nothing.
+use Prim.Native.Nat.{◌-◌}
+use borrow.Author.Rules.{rules}
+use Rattle.lent_bytes.proofs.WordLaws.{room_tenfold, room_next, value_grows, value_on, value_done}
+use Rattle.lent_bytes.proofs.words.value.Goals as goal
+
+pub overflow_mul-sum : goal.overflow_mul-sum
+overflow_mul-sum c = search (rules, room_tenfold)
+
+pub overflow_add-sum : goal.overflow_add-sum
+overflow_add-sum c = search (rules, room_next)
+
+pub loop-i-preserved : goal.loop-i-preserved
+loop-i-preserved c = search (rules, value_grows, value_on)
+
+pub returns : goal.returns
+returns c = search (rules, value_done)
