@@ -1,5 +1,5 @@
 // The calls that a case can name, by the numbers of the stream.
-#[derive(Drop)]
+#[derive(Clone, Copy)]
 pub enum Kind {
     Judge,
     Body,
@@ -18,7 +18,7 @@ pub enum Kind {
 }
 
 // What a number names: one of these calls, or none of them, as a whole program.
-#[derive(Drop)]
+#[derive(Clone, Copy)]
 pub enum Named {
     Call(Kind),
     Nothing,

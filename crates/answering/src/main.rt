@@ -35,7 +35,7 @@ const RAW_BYTES: usize = 131072;
 const MOST_TURNS: u64 = 18446744073709551615;
 
 // The call that a case names, and its numbers.
-#[derive(Drop)]
+#[derive(Clone, Copy)]
 struct Call {
     kind: Kind,
     horizon: usize,
@@ -43,7 +43,7 @@ struct Call {
     reading: Reading,
 }
 
-#[derive(Drop)]
+#[derive(Clone, Copy)]
 enum Next {
     Case(Call),
     Over,

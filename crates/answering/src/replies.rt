@@ -2,7 +2,7 @@
 use rules::{Phase, Refusal, Verdict};
 
 // Number and detail of a refusal, 0 and 0 at acceptance; then what the call counts.
-#[derive(Drop)]
+#[derive(Clone, Copy)]
 pub struct Reply {
     pub number: usize,
     pub detail: usize,

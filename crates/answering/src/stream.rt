@@ -14,7 +14,7 @@ const MAX_LITERAL: u64 = 2147483647;
 // The length of a field that the stream does not hold: longer than any room.
 pub const CUT_OFF: usize = 18446744073709551615;
 
-#[derive(Drop)]
+#[derive(Clone, Copy)]
 pub enum Number {
     Is(usize),
     // The stream ends after so many of its bytes.

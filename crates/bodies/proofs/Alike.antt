@@ -1,6 +1,6 @@
 -- Tasks that are judged alike: two that are equal once no number over a byte is told from another, nor two pairs of variables beyond every task.
 -- Assumes nothing.
-use mathlib.Core.Path.{◌≡◌, refl, sym, ap, ◌∙◌}
+use mathlib.Core.Path.{subst, ◌≡◌, refl, sym, ap, ◌∙◌}
 use mathlib.Core.Logic.{⊎_elim}
 use mathlib.Core.Bool.{cond, not}
 use mathlib.Core.List.{List, [], ◌∷◌, ◌++◌, map}
@@ -89,6 +89,12 @@ far_put m (p ∷ ps) h r =
     let e : blur p ≡ far = blur_far p (omega (arith, r.0)) in
     rw e (ap (λ t. far ∷ t) (far_put p.variable ps (omega (arith, r.0)) r.1))
 
+far_first : (a b : Pair) (ps : List Pair) → a ≡ far → b ≡ far → put_in_order far ps ≡ far ∷ ps → a ∷ b ∷ ps ≡ put_in_order a (b ∷ ps)
+unfolding put_in_order
+far_first a b ps ea eb h =
+    subst (λ (t : Pair). t ∷ b ∷ ps ≡ put_in_order t (b ∷ ps)) (sym ea)
+    (subst (λ (t : Pair). far ∷ t ∷ ps ≡ put_in_order far (t ∷ ps)) (sym eb) (sym (ap (λ t. far ∷ t) h)))
+
 -- a pair is put into the same place, blurred or not
 blur_put : (m : ℕ) (p : Pair) (ps : List Pair) → Rising m ps → map blur (put_in_order p ps) ≡ put_in_order (blur p) (map blur ps)
 unfolding Rising put_in_order
@@ -104,7 +110,7 @@ blur_put m p (q ∷ qs) r =
     let fp : blur p ≡ far = blur_far p beyond in
     let fq : blur q ≡ far = blur_far q (omega arith) in
     ap (map blur) (put_here p q qs l)
-    ∙ rw (fp, fq) (sym (ap (λ t. far ∷ t) (far_put q.variable qs (omega arith) r.1))))
+    ∙ far_first (blur p) (blur q) (map blur qs) fp fq (far_put q.variable qs (omega arith) r.1))
     (below_or p.variable (byte_values - 1)))
     (λ l.
     ap (map blur) (put_later p q qs l)

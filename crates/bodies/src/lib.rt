@@ -13,7 +13,7 @@ use reader::limits::{COUNT_BYTES, MAX_ACTIONS, MAX_GOALS, MAX_PAIRS, MAX_VARIABL
 const LARGEST_BYTE: u8 = 255;
 
 // Which limit a text has gone beyond, if any. From then on nothing more is kept, since nothing more can change the verdict.
-#[derive(Drop)]
+#[derive(Clone, Copy)]
 pub enum Excess {
     Within,
     Lengths,
@@ -22,7 +22,7 @@ pub enum Excess {
 
 // What is kept: how many sizes, start values, goal pairs and actions, how many bytes these actions take, and how many pairs of the action that is
 // being read stand behind them.
-#[derive(Drop)]
+#[derive(Clone, Copy)]
 pub struct Kept {
     pub sizes: usize,
     pub starts: usize,

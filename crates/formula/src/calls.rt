@@ -14,14 +14,14 @@ use task::index::INDEX_LENGTH;
 use task::problem::{count_variables, problem_verdict};
 
 // N and C.
-#[derive(Drop)]
+#[derive(Clone, Copy)]
 pub enum CountsAnswer {
     Found { variables: usize, clauses: usize },
     Refused(Refusal),
 }
 
 // How many literals were written.
-#[derive(Drop)]
+#[derive(Clone, Copy)]
 pub enum LiteralsAnswer {
     Count(usize),
     Refused(Refusal),

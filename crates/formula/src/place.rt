@@ -1,5 +1,5 @@
 // Where a clause stands: its family, and in it the step, from 0, and what the family counts.
-#[derive(Drop)]
+#[derive(Clone, Copy)]
 pub enum Place {
     // The start value of a variable.
     Start(usize),

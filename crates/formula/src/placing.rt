@@ -18,7 +18,7 @@ use task::asked::size;
 use task::index::{actions, effects_before, offset, preconditions_before, value_pairs_before};
 
 // A family, and how many of its clauses stand before one.
-#[derive(Drop)]
+#[derive(Clone, Copy)]
 pub struct Rank {
     pub family: usize,
     pub before: usize,

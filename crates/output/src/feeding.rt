@@ -10,7 +10,7 @@ use rules::{LineAnswer, Reading, Refusal};
 pub const LINE_ROOM: usize = 4097;
 
 // The answer so far, and how many bytes of the line that has begun are held.
-#[derive(Drop)]
+#[derive(Clone, Copy)]
 pub struct Feed {
     pub answer: LineAnswer,
     pub held: usize,

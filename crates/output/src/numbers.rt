@@ -12,14 +12,14 @@ use crate::words::Word;
 use rules::{LineAnswer, Phase, Reading, Refusal};
 
 // A piece is taken, and says whether the model is closed now, or it is refused.
-#[derive(Drop)]
+#[derive(Clone, Copy)]
 pub enum Piece {
     Taken(bool),
     Refused(Refusal),
 }
 
 // All pieces are taken, or one is refused behind the gap at a place.
-#[derive(Drop)]
+#[derive(Clone, Copy)]
 pub enum Tried {
     Through(bool),
     Stopped(Refusal, usize),

@@ -9,14 +9,14 @@ ghost use Rattle.output.specs.Words.{digit_run, reached_value, word_of};
 const MAX_DIGITS: usize = 6;
 
 // A number that a word is, 0 for the closing one, or how far the word could be a number.
-#[derive(Drop)]
+#[derive(Clone, Copy)]
 pub enum Word {
     Number(usize, bool),
     Broken(usize),
 }
 
 // So many first bytes, and the value of the digits among them.
-#[derive(Drop)]
+#[derive(Clone, Copy)]
 struct Run {
     bytes: usize,
     value: usize,

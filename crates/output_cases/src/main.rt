@@ -189,7 +189,7 @@ fn run_block(
 }
 
 // What a command leaves: the reading state that it begins, and where the last line that it took ends.
-#[derive(Drop)]
+#[derive(Clone, Copy)]
 struct Begun {
     reading: Reading,
     end: usize,

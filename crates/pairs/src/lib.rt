@@ -7,7 +7,7 @@ ghost use Rattle.rules.specs.Limits.{max_actions};
 ghost use Rattle.rules.specs.Counts.{pairs_below, pairs_before, PairAt};
 
 // Two numbers, the first below the second.
-#[derive(Drop)]
+#[derive(Clone, Copy)]
 pub struct RisingPair {
     pub first: usize,
     pub second: usize,

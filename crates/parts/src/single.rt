@@ -19,7 +19,7 @@ pub const LINE_ROOM: usize = 3600;
 pub const PAIR_ROOM: usize = 16;
 
 // How many lines were written, and the place behind them.
-#[derive(Drop)]
+#[derive(Clone, Copy)]
 pub struct Part {
     pub lines: usize,
     pub end: usize,

@@ -9,7 +9,7 @@ use crate::limits::{COUNT_BYTES, MAX_ACTIONS, PAIR_BYTES};
 use rules::{Refusal, Verdict};
 
 // One action: how many bytes it takes, or that it is at fault.
-#[derive(Drop)]
+#[derive(Clone, Copy)]
 pub enum ActionRead {
     Whole(usize),
     AtFault,

@@ -2,7 +2,7 @@
 #![tactic(auto)]
 
 // Why a call refuses, in the order of the rules' table; what a variant holds is the refusal's detail.
-#[derive(Drop)]
+#[derive(Clone, Copy)]
 pub enum Refusal {
     FileLength,
     ContentsRow(usize),
@@ -31,14 +31,14 @@ pub enum Refusal {
 }
 
 // The answer of a call that only judges.
-#[derive(Drop)]
+#[derive(Clone, Copy)]
 pub enum Verdict {
     Accepted,
     Refused(Refusal),
 }
 
 // How far a solver's output has been read: no status yet, SATISFIABLE with its model open or closed, or one of the two other statuses.
-#[derive(Drop)]
+#[derive(Clone, Copy)]
 pub enum Phase {
     NoStatus,
     ModelOpen,
@@ -48,21 +48,21 @@ pub enum Phase {
 }
 
 // The reading state: N, the highest variable that a number may name, and how far the reading is.
-#[derive(Drop)]
+#[derive(Clone, Copy)]
 pub struct Reading {
     pub highest: usize,
     pub phase: Phase,
 }
 
 // The answer to one line of solver output.
-#[derive(Drop)]
+#[derive(Clone, Copy)]
 pub enum LineAnswer {
     Next(Reading),
     Refused(Refusal),
 }
 
 // The lines of the translator's text by what they say, in the format's own order.
-#[derive(Drop)]
+#[derive(Clone, Copy)]
 pub enum FormatLine {
     BeginVersion,
     Version,

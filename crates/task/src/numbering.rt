@@ -11,15 +11,15 @@ ghost use Rattle.task.specs.Numbers.{at_any_horizon, number_read};
 use crate::index::{offset, step_width, values};
 
 // A variable and one of its values.
-#[derive(Drop)]
+#[derive(Clone, Copy)]
 pub struct ValuePlace(usize, usize);
 
 // An action, from 0.
-#[derive(Drop)]
+#[derive(Clone, Copy)]
 pub struct ActionNumber(usize);
 
 // A formula variable, from 1.
-#[derive(Drop)]
+#[derive(Clone, Copy)]
 pub struct FormulaNumber(usize);
 
 pub fn value_place(variable: usize, value: usize) -> ValuePlace
@@ -91,7 +91,7 @@ pub fn action_number(file: &[u8], index: &[u16], step: usize, action: ActionNumb
 }
 
 // A number that was read: a formula number if it is one of 1 to N.
-#[derive(Drop)]
+#[derive(Clone, Copy)]
 pub enum NumberRead {
     Number(FormulaNumber),
     Outside,

@@ -15,7 +15,7 @@ use task::index::INDEX_LENGTH;
 use task::problem::problem_verdict;
 
 // How many lines and bytes were written.
-#[derive(Drop)]
+#[derive(Clone, Copy)]
 pub enum TextAnswer {
     Written { lines: usize, bytes: usize },
     Refused(Refusal),

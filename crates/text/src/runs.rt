@@ -10,7 +10,7 @@ ghost use Rattle.digits.specs.Over.{over};
 use parts::next::put_some;
 
 // How many lines and bytes.
-#[derive(Drop)]
+#[derive(Clone, Copy)]
 pub struct Run {
     pub lines: usize,
     pub bytes: usize,

@@ -11,14 +11,14 @@ ghost use Rattle.textlines.specs.Says.{is_fact, says_as};
 use rules::{FormatLine, Refusal};
 
 // The old value of an effect: -1 stands for any.
-#[derive(Drop)]
+#[derive(Clone, Copy)]
 pub enum OldValue {
     Any,
     Is(usize),
 }
 
 // The numbers of a line: a count, a size or a value; a fact's variable and value; an effect's variable, new value and old value.
-#[derive(Drop)]
+#[derive(Clone, Copy)]
 pub struct Numbers {
     pub first: usize,
     pub second: usize,
@@ -26,7 +26,7 @@ pub struct Numbers {
 }
 
 // What a line says, or why it is refused.
-#[derive(Drop)]
+#[derive(Clone, Copy)]
 pub enum Said {
     Says(Numbers),
     Refused(Refusal),

@@ -15,7 +15,7 @@ use rules::{FormatLine, Refusal, Verdict};
 
 // How far a text is read: where in the format, how many lines, the first fault if there was one, what is kept, and how many bytes are held of the line
 // that has begun.
-#[derive(Drop)]
+#[derive(Clone, Copy)]
 pub struct Intake {
     pub position: Position,
     pub lines: usize,
@@ -25,7 +25,7 @@ pub struct Intake {
 }
 
 // The file's length where it was written, or the refusal.
-#[derive(Drop)]
+#[derive(Clone, Copy)]
 pub enum Translation {
     Written(usize),
     Refused(Refusal),

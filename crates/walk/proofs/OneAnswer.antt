@@ -4,14 +4,6 @@ use mathlib.Core.Path.{◌≡◌, refl, sym, ◌∙◌}
 use mathlib.Core.Bool.{Bool}
 use mathlib.Core.List.{List}
 use Prim.Native.Nat.{ℕ}
-use seplogic.Ra.Ura.{Ura}
-use base.Logic.{SProp}
-use prog.Memory.{Memory}
-use prog.Routine.{Routine}
-use types.Logic.{Logic}
-use contract.Lifetimes.{Lfts}
-use contract.Monad.{Fun, fact}
-use denote.Ref.{MutBor, at_last}
 use Rattle.rules.specs.File.{action_in}
 use Rattle.rules.specs.Walk.{set_pairs}
 use Rattle.walk.specs.declared.State.{State}
@@ -19,7 +11,7 @@ use Rattle.walk.proofs.start.Reads as start
 use Rattle.walk.proofs.applies.Reads as applies
 use Rattle.walk.proofs.unmet.Reads as unmet
 use Rattle.walk.proofs.set_effects.Reads as set-effects
-use Rattle.walk.specs.contracts.apply as apply
+use Rattle.walk.proofs.apply.Reads as apply
 use Rattle.walk.proofs.after.Reads as after
 
 same_state : (r s : State) (l : List ℕ) → r.values ≡ l → s.values ≡ l → r ≡ s
@@ -44,11 +36,8 @@ one_after κs a r s x p q = same_state r s _ p q
 abbrev pub Left : (state : State) (action : List ℕ) → State → Type 0
 Left state action z = z.values ≡ set_pairs state.values (action_in action).effects
 
-apply_promises : {M : Type 1} {𝓤 : Ura M} (𝓛 : Logic 𝓤) (κs : Lfts 2) (mem : Memory → SProp 𝓤) (run : Routine → Fun 𝓤) (state : MutBor State)
-    (action : MutBor (List ℕ)) (z : State)
-    → apply.ensures-1 𝓛 κs mem run state action (record { entry = state; exit = at_last state z }) (record { entry = action; exit = action }) tt
-    ≡ fact 𝓤 (Left state.now action.now z)
-apply_promises 𝓛 κs mem run state action z = refl
+apply_promises : (κs : _) (a : _) (r : _) (x : _) → apply.Post κs a r x → Left a.0.now a.1.0.now x.0.now
+apply_promises κs a r x p = p
 
 pub one_apply : (state : State) (action : List ℕ) (y z : State) → Left state action y → Left state action z → y ≡ z
 one_apply state action y z p q = same_state y z _ p q

@@ -15,7 +15,7 @@ const COUNT_BYTES: usize = 2;
 const PAIR_BYTES: usize = 2;
 
 // The state of a walk: the value of each variable, and 0 from n on.
-#[derive(Drop)]
+#[derive(Clone, Copy)]
 pub struct State {
     pub values: [u8; MAX_VARIABLES],
 }
@@ -38,7 +38,8 @@ fn pair_holds(values: &[u8], pairs: &[u8], at: usize) -> bool
     requires { at + 1 < 2 ^ 64 }
     ensures { result ≡ holds values.now (pair_at pairs.now at) }
 {
-    lent_bytes::byte_at(values, lent_bytes::number_at(pairs, at)) == lent_bytes::byte_at(pairs, at + 1)
+    lent_bytes::byte_at(values, lent_bytes::number_at(pairs, at))
+        == lent_bytes::byte_at(pairs, at + 1)
 }
 
 // The first of the pairs from a place on that does not hold, or how many there are.

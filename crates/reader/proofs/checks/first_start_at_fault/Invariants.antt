@@ -5,6 +5,7 @@ use Prim.Native.Nat.{◌≤◌, ◌-◌}
 use lib.ListN.{length}
 use Rattle.rules.specs.Counting.{first}
 use Rattle.rules.specs.Task.{start_at_fault}
+use mathlib.Core.List.{[]}
 use Rattle.reader.specs.Bodies.{task_in}
 use Rattle.reader.proofs.checks.first_start_at_fault.Given as goal
 

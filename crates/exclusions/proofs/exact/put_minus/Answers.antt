@@ -1,0 +1,17 @@
+-- `exclusions::exact::put_minus` meets its contract.
+-- Assumes nothing.
+use Rattle.exclusions.proofs.ByBytes.{number_below, digits_room, space_room, minus_written, minus_within}
+use borrow.Author.Rules.{rules}
+use Rattle.exclusions.proofs.exact.put_minus.Goals as goal
+
+pub put-end-requires : goal.put-end-requires
+put-end-requires c = search (rules, number_below, digits_room)
+
+pub put_byte-requires : goal.put_byte-requires
+put_byte-requires c = search (rules, space_room)
+
+pub returns-clause-written : goal.returns-clause-written
+returns-clause-written c = search (rules, minus_written)
+
+pub returns-clause-within : goal.returns-clause-within
+returns-clause-within c = search (rules, minus_within)

@@ -1,0 +1,14 @@
+-- Assumes nothing.
+use Prim.Native.Nat.{◌-◌}
+use borrow.Author.Rules.{rules}
+use Rattle.rows.proofs.StretchLaws.{count_none, count_on, count_all}
+use Rattle.rows.proofs.count_set.Goals as goal
+
+pub loop-done-init : goal.loop-done-init
+loop-done-init c = search (rules, count_none)
+
+pub loop-done-preserved : goal.loop-done-preserved
+loop-done-preserved c = search (rules, count_on)
+
+pub returns : goal.returns
+returns c = search (rules, count_all)

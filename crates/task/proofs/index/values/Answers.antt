@@ -1,0 +1,13 @@
+-- `values` meets its contract.
+-- Assumes nothing.
+use borrow.Author.Rules.{rules}
+use mathlib.Core.Path.{◌∙◌}
+use native.Mathlib.Omega.{arith}
+use Rattle.task.proofs.Asking.{index_long, values_asked}
+use Rattle.task.proofs.index.values.Goals as goal
+
+pub number_in-requires : goal.number_in-requires
+number_in-requires c = omega (arith, index_long)
+
+pub returns : goal.returns
+returns c = search (rules, ◌∙◌, values_asked)
