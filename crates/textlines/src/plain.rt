@@ -41,6 +41,7 @@ pub fn is_plain(word: &[u8]) -> bool
     lent_bytes::byte_at(word, 0) != b'0'
 }
 
+#[tactic(auto, unfolding(rules::specs::Text::ascii, rules::specs::Format::is_minus_one))]
 pub fn is_minus_one(word: &[u8]) -> bool
     ensures { result ≡ is_minus_one word.now }
 {

@@ -19,5 +19,11 @@ put_byte-tens-requires c = search (rules, tens_fit)
 pub put_byte-requires : goal.put_byte-requires
 put_byte-requires c = search (rules, ones_fit)
 
-pub returns : goal.returns
-returns c = (search (rules, long_put), (search (rules, long_behind), search (rules, long_ends)))
+pub returns-clause-written : goal.returns-clause-written
+returns-clause-written c = search (rules, long_put)
+
+pub returns-clause-behind : goal.returns-clause-behind
+returns-clause-behind c = search (rules, long_behind)
+
+pub returns-clause-few : goal.returns-clause-few
+returns-clause-few c = search (rules, long_ends)
