@@ -16,9 +16,9 @@ use Rattle.rules.proofs.Bools.{below_or}
 use Rattle.bodies.specs.Keeping.{as_byte, byte_pair}
 use Rattle.bodies.proofs.InOrder.{put_before, put_behind}
 
-pub map_append : {X Y : Type 0} (f : X → Y) (l r : List X) → map f (l ++ r) ≡ map f l ++ map f r
-map_append f [] r = refl
-map_append f (x ∷ l) r = ap (λ t. f x ∷ t) (map_append f l r)
+pub map-append : {X Y : Type 0} (f : X → Y) (l r : List X) → map f (l ++ r) ≡ map f l ++ map f r
+map-append f [] r = refl
+map-append f (x ∷ l) r = ap (λ t. f x ∷ t) (map-append f l r)
 
 -- ---- a pair
 
@@ -175,11 +175,11 @@ module _ (s : Stated) (o : Ordered s) where
   -- what is stated more is stated blurred
   blur_size : (m : ℕ) → blur_stated (with_size m s) ≡ with_size (as_byte m) (blur_stated s)
   unfolding with_size
-  blur_size m = rw (map_append as_byte s.task.sizes (m ∷ []))
+  blur_size m = rw (map-append as_byte s.task.sizes (m ∷ []))
 
   blur_start : (m : ℕ) → blur_stated (with_start m s) ≡ with_start (as_byte m) (blur_stated s)
   unfolding with_start
-  blur_start m = rw (map_append as_byte s.task.start (m ∷ []))
+  blur_start m = rw (map-append as_byte s.task.start (m ∷ []))
 
   blur_goal : (p : Pair) → blur_stated (with_goal p s) ≡ with_goal (blur p) (blur_stated s)
   unfolding with_goal
@@ -195,7 +195,7 @@ module _ (s : Stated) (o : Ordered s) where
 
   blur_action_lem : blur_stated (with_action s) ≡ with_action (blur_stated s)
   unfolding with_action
-  blur_action_lem = rw (map_append blur_action s.task.actions (s.action ∷ []))
+  blur_action_lem = rw (map-append blur_action s.task.actions (s.action ∷ []))
 
 -- ---- two that are alike stay so, where one more is stated in both, in the first as bytes
 

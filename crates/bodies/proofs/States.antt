@@ -20,7 +20,7 @@ use Rattle.bodies.specs.Keeping.{Keeping, keeps, nothing_kept, actions_room, Sou
 use Rattle.bodies.specs.declared.Kept.{Kept}
 use Rattle.bodies.specs.declared.Excess.{Excess}
 use Rattle.bodies.specs.declared.Excess.TheVariants.{Within, Lengths, Actions}
-use Rattle.bodies.proofs.Alike.{map_append, length-put, blur, blur_action, blur_task, blur_stated, Ordered, ordered_nothing, ordered_size, ordered_start, ordered_goal, ordered_precondition, ordered_effect, ordered_action, alike_size, alike_start, alike_goal, alike_precondition, alike_effect, alike_action}
+use Rattle.bodies.proofs.Alike.{map-append, length-put, blur, blur_action, blur_task, blur_stated, Ordered, ordered_nothing, ordered_size, ordered_start, ordered_goal, ordered_precondition, ordered_effect, ordered_action, alike_size, alike_start, alike_goal, alike_precondition, alike_effect, alike_action}
 use Rattle.bodies.proofs.Beyond.{TooLong, TooMany, cut_to}
 use Rattle.bodies.proofs.KeepSound.{sound_beyond, sound_size, sound_start, sound_goal, sound_precondition, sound_effect, sound_action}
 use Rattle.bodies.proofs.HeldBodies.{NumbersHeld, PairsHeld, ActionsHeld, numbers_more, pairs_more, precondition_more, effect_more, action_more}
@@ -178,7 +178,7 @@ cut_action : (s : Stated) (j : ℕ) → j ≤ A s.task → cut_to j (blur_task s
 unfolding with_action
 cut_action s j h =
     rw (
-      map_append blur_action s.task.actions (s.action ∷ []),
+      map-append blur_action s.task.actions (s.action ∷ []),
       take-append-le j (map blur_action s.task.actions) (blur_action s.action ∷ []) (omega (arith, length-map s.task.actions blur_action)),
     )
 

@@ -1,7 +1,7 @@
 -- Literals in lent memory: the signed number that a word holds, and one literal written behind others.
 -- Assumes nothing.
 use mathlib.Core.Path.{◌≡◌, refl, sym, ap, ◌∙◌}
-use mathlib.Core.List.{List, [], ◌∷◌, ◌++◌, map, map_append}
+use mathlib.Core.List.{List, [], ◌∷◌, ◌++◌, map, map-append}
 use Prim.Native.Nat.{ℕ, zero, suc, ◌+◌, ◌^◌, ◌≤◌, ◌<◌}
 use native.Mathlib.Omega.{arith}
 use native.Mathlib.Nat.{lt_of_le_of_lt}
@@ -68,7 +68,7 @@ written_on lent out next at here ls ms e eh en =
     ∙ ap (λ o. over o here (map signed ms)) e
     ∙ ap (λ h. over (over lent at (map signed ls)) h (map signed ms)) (eh ∙ ap (λ m. at + m) (sym (length-map ls signed)))
     ∙ over_over lent at (map signed ls) (map signed ms)
-    ∙ ap (over lent at) (sym (map_append signed ls ms))
+    ∙ ap (over lent at) (sym (map-append signed ls ms))
 
 -- two of them, from the front on
 pub two_written : (lent out next : List ℤ) (l m : Literal) → out ≡ written lent 0 (l ∷ []) → next ≡ written out 1 (m ∷ []) → next ≡ written lent 0 (l ∷ m ∷ [])

@@ -47,7 +47,7 @@ pub fn variable_of_value(file: &[u8], index: &[u16], q: usize) -> usize
 // The variable of pair q of all pairs of values of one variable.
 pub fn variable_of_pair(file: &[u8], index: &[u16], q: usize) -> usize
     requires { Indexed file.now index.now × (q < value_pairs_before (task_of file.now) (n (task_of file.now))) }
-    ensures* { λ x. ⌜ InPart (n (task_of file.now)) (λ x. pairs_below (d (task_of file.now) x)) q x ⌝ }
+    ensures { InPart (n (task_of file.now)) (λ x. pairs_below (d (task_of file.now) x)) q result }
 {
     row_of(index, 1, VARIABLE_WIDTH, variables(file), q)
 }
@@ -55,7 +55,7 @@ pub fn variable_of_pair(file: &[u8], index: &[u16], q: usize) -> usize
 // The action of precondition q of all preconditions.
 pub fn action_of_precondition(file: &[u8], index: &[u16], q: usize) -> usize
     requires { Indexed file.now index.now × (q < preconditions_before (task_of file.now) (actionCount (task_of file.now))) }
-    ensures* { λ a. ⌜ InPart (actionCount (task_of file.now)) (λ a. length (action (task_of file.now) a).preconditions) q a ⌝ }
+    ensures { InPart (actionCount (task_of file.now)) (λ a. length (action (task_of file.now) a).preconditions) q result }
 {
     row_of(index, ACTIONS_AT + 1, ACTION_WIDTH, actions(file, index), q)
 }
@@ -63,7 +63,7 @@ pub fn action_of_precondition(file: &[u8], index: &[u16], q: usize) -> usize
 // The action of effect q of all effects.
 pub fn action_of_effect(file: &[u8], index: &[u16], q: usize) -> usize
     requires { Indexed file.now index.now × (q < effects_before (task_of file.now) (actionCount (task_of file.now))) }
-    ensures* { λ a. ⌜ InPart (actionCount (task_of file.now)) (λ a. length (action (task_of file.now) a).effects) q a ⌝ }
+    ensures { InPart (actionCount (task_of file.now)) (λ a. length (action (task_of file.now) a).effects) q result }
 {
     row_of(index, ACTIONS_AT + 2, ACTION_WIDTH, actions(file, index), q)
 }

@@ -3,7 +3,7 @@
 -- Assumes nothing.
 use mathlib.Core.Path.{◌≡◌, refl, sym, ap, ◌∙◌}
 use mathlib.Core.Logic.{⊎_elim}
-use mathlib.Core.Bool.{Bool, true, false, cond, not, ◌&&◌, ◌||◌, or_assoc, or_false}
+use mathlib.Core.Bool.{Bool, true, false, cond, not, ◌&&◌, ◌||◌, or_assoc, or-false}
 use mathlib.Core.List.{List, [], ◌∷◌, ◌++◌, tail, foldl-append}
 use Prim.Native.Char.{code}
 use Prim.Native.Nat.{ℕ, suc, ◌+◌, ◌-◌, ◌/◌, ◌≤◌, ◌<◌}
@@ -46,7 +46,7 @@ bit_marked row v u hv hu l =
     ap (bit_of_variable (with_variable row v true)) (sym e) ∙ bit_written row v true l ∙ sym (or_right (bit_of_variable row u) (eqb v u) t))
     (λ t.
     bit_kept row u v true (λ e. eqb-false v u t (omega arith))
-    ∙ sym (or_false (bit_of_variable row u))
+    ∙ sym (or-false (bit_of_variable row u))
     ∙ ap (λ b. bit_of_variable row u || b) (sym t))
     (either (eqb v u))
 
@@ -56,7 +56,7 @@ names_literal u p = ⊎_elim (λ t. rw t refl) (λ t. rw t refl) (either (is_neg
 
 any_snoc : {X : Type 0} (q : X → Bool) (l : List X) (x : X) → any q (l ++ (x ∷ [])) ≡ (any q l || q x)
 unfolding any
-any_snoc q [] x = or_false (q x)
+any_snoc q [] x = or-false (q x)
 any_snoc q (y ∷ l) x = ap (λ b. q y || b) (any_snoc q l x) ∙ sym (or_assoc (q y) (any q l) (q x))
 
 -- ---- a word that the rules let pass
@@ -175,7 +175,7 @@ module _ (highest : ℕ) (rows₀ : Rows) (fit : words_for highest ≤ length ro
       ⊎_elim (λ t. rw t refl)
       (λ t.
       let z : v ≡ 0 → ⊥ = eqb-false v 0 t in
-      ap (λ b. eqb v 0 || not b) (sym (or_false (bit_of_variable rows.given v) ∙ r.bits v (omega (arith, z)) (in_row rows v r.long (omega (arith, z)) h))))
+      ap (λ b. eqb v 0 || not b) (sym (or-false (bit_of_variable rows.given v) ∙ r.bits v (omega (arith, z)) (in_row rows v r.long (omega (arith, z)) h))))
       (either (eqb v 0))
 
   -- the marks say what the rules ask of the rows as they were and of what was named since
@@ -404,7 +404,7 @@ module _ (highest : ℕ) (rows : Rows) (line : List ℕ) (fit : words_for highes
   line_agrees =
       rw (tail_pieces line v alone)
       (agree highest rows fit (length line) (number_pieces line) scan_start rows first_gap
-      (record { so_far = refl; place = refl; stored = refl; long = refl; bits = λ u h l. sym (or_false (bit_of_variable rows.given u)) })
+      (record { so_far = refl; place = refl; stored = refl; long = refl; bits = λ u h l. sym (or-false (bit_of_variable rows.given u)) })
       (omega (arith, total_line)))
 
   pub line_back : (why : Refusal) (stop : ℕ) → (trial highest rows.given first_gap false (number_pieces line)).answer ≡ Tried.Stopped why stop

@@ -1,5 +1,5 @@
 -- In how many turns the pair behind a number is found. A loop's measure falls with each turn; that of `pair_of` is `halvings` of how far its two bounds are
--- apart, and what it is before the first turn stands beside the proof (`turns` in `pair_of/Proof.antt`).
+-- apart, and what it is before the first turn stands beside the proof (`turns` in `pair_of/Invariants.antt`).
 -- Assumes nothing.
 use Prim.Native.Nat.{ℕ, ◌≤◌}
 use native.Mathlib.Nat.{le_trans}

@@ -40,9 +40,9 @@ module _ (w : List ℕ) (i : ℕ) (left : every is_digit (drop i w) ≡ every is
 
 -- ---- a number
 
-or_false : (b : Bool) → (b || false) ≡ b
-or_false true = refl
-or_false false = refl
+or-false : (b : Bool) → (b || false) ≡ b
+or-false true = refl
+or-false false = refl
 
 pub plain_empty : (w : List ℕ) → length w ≡ 0 → false ≡ is_plain w
 unfolding is_plain
@@ -64,7 +64,7 @@ module _ (w : List ℕ) (some : length w ≡ 0 → ⊥) (few : length w ≤ max_
   plain_one t h = sym (plain_left ∙ rw (not_false r t, eq-eqb (length w) 1 h) (or_right (not (eqb (byte w 0) digit0)) true refl))
 
   pub plain_many : not r ≡ false → (length w ≡ 1 → ⊥) → (b : ℕ) → b ≡ byte w 0 → not (eqb b digit0) ≡ is_plain w
-  plain_many t h b e = ap (λ k. not (eqb k digit0)) e ∙ sym (plain_left ∙ rw (not_false r t, ne_eqb (length w) 1 h) (or_false (not (eqb (byte w 0) digit0))))
+  plain_many t h b e = ap (λ k. not (eqb k digit0)) e ∙ sym (plain_left ∙ rw (not_false r t, ne_eqb (length w) 1 h) (or-false (not (eqb (byte w 0) digit0))))
 
 pub plain_few : (w : List ℕ) → is_plain w ≡ true → length w ≤ most_digits
 plain_few w t =

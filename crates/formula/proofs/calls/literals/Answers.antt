@@ -1,0 +1,15 @@
+-- `calls::literals` meets its contract.
+-- Assumes nothing.
+use borrow.Author.Rules.{rules}
+use Rattle.task.proofs.Stated.{file_accepted, indexed, horizon_right}
+use Rattle.formula.proofs.Answered.{problem_said, problem_left}
+use Rattle.formula.proofs.calls.literals.Goals as goal
+
+pub returns-in-Refused : goal.returns-in-Refused
+returns-in-Refused c = (search (rules, problem_said), search (rules, problem_left))
+
+pub fill_index-requires : goal.fill_index-requires
+fill_index-requires c = search (rules, file_accepted)
+
+pub literals_indexed-requires : goal.literals_indexed-requires
+literals_indexed-requires c = search (rules, indexed, horizon_right)

@@ -1,0 +1,20 @@
+-- `search::row_of` meets its contract, and in how many turns (`turns`). The loop's invariant: lo and hi bracket the row; the measure is how often their distance can be halved.
+-- Assumes nothing.
+use mathlib.Core.Path.{◌≡◌}
+use Prim.Native.Nat.{ℕ, ◌-◌, ◌^◌, ◌≤◌}
+use native.Mathlib.Omega.{arith}
+use borrow.Author.Rules.{rules}
+use Rattle.pairs.specs.Halving.{halvings}
+use Rattle.pairs.proofs.Halving.{Bracket, few_turns}
+use Rattle.formula.specs.Parts.{column}
+use Rattle.formula.proofs.search.row_of.Given as goal
+
+abbrev pub invariant-loop-hi : goal.invariant-loop-hi
+invariant-loop-hi l = Bracket (column l.index l.at l.width) l.rows l.q l.lo l.hi
+
+abbrev pub decreases-loop-hi : goal.decreases-loop-hi
+decreases-loop-hi l = halvings (l.hi - l.lo)
+
+-- before the first turn, with lo at 0 and hi at rows, the measure is at most the logarithm of rows
+pub turns : (l : goal.Live-loop-hi) (t : ℕ) → l.lo ≡ 0 → l.hi ≡ l.rows → l.rows ≤ 2 ^ t → decreases-loop-hi l ≤ t
+turns l t lo hi h = few_turns (l.hi - l.lo) t (omega arith)
