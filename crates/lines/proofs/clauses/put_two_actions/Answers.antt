@@ -1,0 +1,8 @@
+-- `clauses::put_two_actions` meets its contract.
+-- Assumes nothing.
+use Rattle.lines.proofs.ByPlace.{two_actions-line}
+use borrow.Author.Rules.{rules}
+use Rattle.lines.proofs.clauses.put_two_actions.Goals as goal
+
+pub returns-clause-written : goal.returns-clause-written
+returns-clause-written c = search (rules, two_actions-line)

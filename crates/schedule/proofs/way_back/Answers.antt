@@ -1,0 +1,15 @@
+-- `way_back` meets its contract.
+-- Assumes nothing.
+use borrow.Author.Rules.{rules}
+use Rattle.task.proofs.Stated.{file_accepted, horizon_right, indexed}
+use Rattle.schedule.proofs.BackLaws.{problem_wrong}
+use Rattle.schedule.proofs.way_back.Goals as goal
+
+pub returns-in_default : goal.returns-in_default
+returns-in_default c = problem_wrong _ _ _ _ _ _ _ c.problem-verdict.ensures c.enum-told2.given.1
+
+pub fill_index-requires : goal.fill_index-requires
+fill_index-requires c = (search (rules, file_accepted), search rules)
+
+pub way_back_of-requires : goal.way_back_of-requires
+way_back_of-requires c = (search (rules, indexed), search (rules, horizon_right))
