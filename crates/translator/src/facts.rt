@@ -13,7 +13,7 @@ use rules::{FormatLine, Verdict};
 
 // How far the facts of a group are read: the next byte that is not taken, how many bytes of a line are held, how many facts are left, how many lines
 // were read.
-#[derive(Drop)]
+#[derive(Clone, Copy)]
 pub(crate) struct Facts {
     pub at: usize,
     pub held: usize,

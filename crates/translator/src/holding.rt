@@ -12,7 +12,7 @@ const HALF_BLOCK: usize = 8;
 const QUARTER_BLOCK: usize = 4;
 
 // How far the bytes of a line go, and how many are held then.
-#[derive(Drop)]
+#[derive(Clone, Copy)]
 pub(crate) struct Stop {
     pub at: usize,
     pub held: usize,

@@ -32,7 +32,7 @@ pub enum Translation {
 }
 
 // A reading, and the next byte that it has not taken.
-#[derive(Drop)]
+#[derive(Clone, Copy)]
 pub(crate) struct Further {
     pub reading: Intake,
     pub at: usize,

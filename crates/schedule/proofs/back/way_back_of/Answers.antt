@@ -1,6 +1,7 @@
 -- `way_back_of` meets its contract.
 -- Assumes nothing.
 use borrow.Author.Rules.{rules}
+use Rattle.rules.proofs.Judging.{refused_else}
 use Rattle.schedule.proofs.BackLaws.{too_little, given_fits, truth_fits, entries_fit, schedule_wrong, can_be_carried, schedule_right}
 use Rattle.schedule.proofs.back.way_back_of.Goals as goal
 
@@ -11,13 +12,15 @@ pub schedule_verdict-verdict-requires : goal.schedule_verdict-verdict-requires
 schedule_verdict-verdict-requires c = search (rules, entries_fit)
 
 pub returns-in_default : goal.returns-in_default
-returns-in_default c = schedule_wrong _ _ _ _ _ (search rules) (search rules) _ c.enough.ensures (search rules) _ c.schedule-verdict.ensures _ c.enum-told2.given.1
+returns-in_default c =
+    let why = refused_else _ c.in_default.not-Accepted in
+    schedule_wrong _ _ _ _ _ (search rules) (search rules) _ c.enough.ensures (search rules) _ c.schedule_verdict-verdict.ensures why.0 why.1
 
 pub give_all-requires : goal.give_all-requires
 give_all-requires c = search (rules, given_fits)
 
 pub give_truth-requires : goal.give_truth-requires
-give_truth-requires c = (search rules, search rules, search (rules, entries_fit), can_be_carried _ _ _ _ c.schedule-verdict.ensures (search rules), truth_fits _ _ _ _ _ _ c.enough.ensures (search rules))
+give_truth-requires c = (search rules, search rules, search (rules, entries_fit), can_be_carried _ _ _ _ c.schedule_verdict-verdict.ensures (search rules), truth_fits _ _ _ _ _ _ c.enough.ensures (search rules))
 
 pub returns : goal.returns
-returns c = schedule_right _ _ _ _ _ (search rules) (search rules) _ c.enough.ensures (search rules) _ c.schedule-verdict.ensures _ _ (search rules) (search rules) (search rules)
+returns c = schedule_right _ _ _ _ _ (search rules) (search rules) _ c.enough.ensures (search rules) _ c.schedule_verdict-verdict.ensures _ _ (search rules) (search rules) (search rules)

@@ -11,9 +11,6 @@ loop-x-init c = search (rules, values_none)
 pub bounds-values-x : goal.bounds-values-x
 bounds-values-x c = search (rules, value_there)
 
-pub overflow_cast-values : goal.overflow_cast-values
-overflow_cast-values c = omega (arith, c.shared-slice-known4.given c.loop-x.x)
-
 pub set_value-requires : goal.set_value-requires
 set_value-requires c = search (rules, value_inside)
 

@@ -1,0 +1,8 @@
+-- `no_lf_in_half` meets its contract.
+-- Assumes nothing.
+use borrow.Author.Rules.{rules}
+use Rattle.translator.proofs.ByteLaws.{no_lf-half}
+use Rattle.translator.proofs.holding.no_lf_in_half.Goals as goal
+
+pub returns : goal.returns
+returns c = search (rules, no_lf-half)

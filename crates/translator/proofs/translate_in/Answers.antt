@@ -1,0 +1,10 @@
+-- `translate_in` meets its contract.
+-- Assumes nothing.
+use native.Mathlib.Omega.{arith}
+use Rattle.translator.proofs.Translating.{by_the_rules}
+use Rattle.translator.proofs.translate_in.Goals as goal
+
+pub returns : goal.returns
+returns c =
+    let whole = by_the_rules _ _ _ _ _ _ _ _ _ _ c.begin-first.ensures c.take_bytes-read.ensures c.finish.ensures c.requires.0 c.requires.1 (omega (arith, c.well_formed.0)) in
+    record { answer = whole.0; left = whole.1 }
