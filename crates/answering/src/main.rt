@@ -12,10 +12,12 @@ mod stream;
 mod texts;
 
 use kinds::{Kind, Named};
-use libc::STDERR_FILENO;
 use replies::Reply;
 use rules::Reading;
 use stream::Number;
+
+// Standard error, by its number.
+const STDERR_FILENO: i32 = 2;
 
 const FILE_BYTES: usize = 32768;
 

@@ -3,7 +3,12 @@
 ghost use Rattle.std.specs.Prelude.{◌+◌, ◌*◌, ◌≤◌, length};
 
 use digits::words::put8;
-use libc::{STDIN_FILENO, STDOUT_FILENO};
+
+// Standard input, by its number.
+const STDIN_FILENO: i32 = 0;
+
+// Standard output, by its number.
+const STDOUT_FILENO: i32 = 1;
 
 const WORD_BYTES: usize = 8;
 

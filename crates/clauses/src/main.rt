@@ -11,7 +11,6 @@ ghost use Rattle.lines.specs.Written.{line_room};
 ghost use Rattle.clauses.specs.Printed.{lines_printed};
 
 use formula::families::count_clauses;
-use libc::{STDIN_FILENO, STDOUT_FILENO};
 use printing::refusal_line;
 use reader::contents::byte_at;
 use reader::limits::MAX_FILE;
@@ -20,6 +19,12 @@ use task::filling::fill_index;
 use task::index::INDEX_LENGTH;
 use task::problem::problem_verdict;
 use text::calls::{TextAnswer, header_indexed, lines_indexed};
+
+// Standard input, by its number.
+const STDIN_FILENO: i32 = 0;
+
+// Standard output, by its number.
+const STDOUT_FILENO: i32 = 1;
 
 // The horizon byte, the longest file, and one byte more, by which a file that is too long shows.
 const INPUT_ROOM: usize = 1 + MAX_FILE + 1;

@@ -96,10 +96,10 @@ module _ (file : List ℕ) (fine : file_verdict file ≡ Accepted) (k : ℕ) (sm
   unfolding problem_verdict
   stated = within file fine k small
 
-  in_order_lem : formula P
+  in_order : formula P
       ≡ joined (family1 P ∷ family2 P ∷ family3 P ∷ family4 P ∷ family5 P ∷ family6 P ∷ family7 P ∷ family8 P ∷ [])
   unfolding problem_of
-  in_order_lem = (Rules.demand2 T k).in_order
+  in_order = (Rules.demand2 T k).in_order
 
   true_counts : Found (N P) (C P) ≡ Found (k * (S T + A T) + S T) (sum (count_table T k))
   unfolding problem_of N
@@ -160,7 +160,7 @@ module _ (file : List ℕ) (fine : file_verdict file ≡ Accepted) (k : ℕ) (sm
   demand2 =
       record {
         families = λ room after answer enough e.
-            the_formula file k stated room after answer enough (λ c h. spelled_is file k c (room c) (answer c) (after c) (e c h)) ∙ ap (map (map signed)) in_order_lem;
+            the_formula file k stated room after answer enough (λ c h. spelled_is file k c (room c) (answer c) (after c) (e c h)) ∙ ap (map (map signed)) in_order;
         counted = λ answer e. counted_is file k answer e ∙ the_counts file k stated ∙ true_counts;
         model = λ rows entries after verdict e enough.
             let same = ended_verdict file k ModelClosed rows entries verdict after e in

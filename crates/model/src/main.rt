@@ -8,10 +8,15 @@ ghost use Rattle.std.specs.Prelude.{◌≡◌, ◌≤◌, length};
 ghost use Rattle.output.specs.Feeding.{line_room, feed_leaves};
 ghost use Rattle.model.specs.Parts.{text_room, words_needed, FedSome, Ended, Answered};
 
-use libc::{STDIN_FILENO, STDOUT_FILENO};
 use output::feeding;
 use output::feeding::{Feed, LINE_ROOM};
 use parts::{FIRST_ROOM, ROW_WORDS, TEXT_ROOM};
+
+// Standard input, by its number.
+const STDIN_FILENO: i32 = 0;
+
+// Standard output, by its number.
+const STDOUT_FILENO: i32 = 1;
 
 // More parts than any input has.
 const MOST_PARTS: usize = 18446744073709551615;

@@ -9,10 +9,12 @@
 
 ghost use Rattle.std.specs.Prelude.{◌<◌, ◌≤◌, length};
 
-use libc::STDOUT_FILENO;
 use output::feeding;
 use output::feeding::LINE_ROOM;
 use rules::{LineAnswer, Phase, Reading};
+
+// Standard output, by its number.
+const STDOUT_FILENO: i32 = 1;
 
 const ROW_WORDS: usize = 32;
 

@@ -33,7 +33,7 @@ module _ (T : Task) (k : ℕ) where
   -- literal among those named, else refused with the lowest that has none, and states the schedule of its completion; a schedule is accepted exactly if its moves can be carried out and reach the
   -- goal, and its rows hold its assignment.
   pub record Demand2 : Type 0 where
-    pub in_order_lem :
+    pub in_order :
         formula P ≡ joined (family1 P ∷ family2 P ∷ family3 P ∷ family4 P ∷ family5 P ∷ family6 P ∷ family7 P ∷ family8 P ∷ [])
     pub counted : map length (families P) ≡ count_table T k
     pub header :

@@ -29,7 +29,7 @@ unfolding formula families header_line N rows_of
 demand2 T k =
     let P = problem T k in
     record {
-      in_order_lem = refl;
+      in_order = refl;
       counted = counts T k;
       header = ap (λ c. ascii "p cnf " ++ decimal (N P) ++ (space ∷ []) ++ decimal c ++ (lf ∷ [])) (C-is T k);
       model = λ phase rows. (accepted_holds P rows phase, holds_accepted P rows phase);

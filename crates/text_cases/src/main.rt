@@ -5,8 +5,13 @@
 
 ghost use Rattle.std.specs.Prelude.{◌≤◌, length};
 
-use libc::{STDIN_FILENO, STDOUT_FILENO};
 use text::calls::{TextAnswer, clause_line, header, lines};
+
+// Standard input, by its number.
+const STDIN_FILENO: i32 = 0;
+
+// Standard output, by its number.
+const STDOUT_FILENO: i32 = 1;
 
 const FOLDER_LENGTH: usize = 38;
 

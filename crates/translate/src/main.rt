@@ -7,11 +7,16 @@ ghost use Rattle.rules.specs.Limits.{max_file};
 ghost use Rattle.translator.specs.Intake.{memory, Lent, head_room, taken, take_call, begun};
 ghost use Rattle.translate.specs.Parts.{part_room, most_parts, FedSome, end_text, Shown, ShownBehind, Answered};
 
-use libc::{STDIN_FILENO, STDOUT_FILENO};
 use reader::limits::{MAX_FILE, MAX_VARIABLES};
 use translator::ending::finish;
 use translator::intake::{Intake, Translation, begin, take_bytes};
 use translator::room::{ACTIONS_ROOM, GOAL_ROOM, HEAD_ROOM};
+
+// Standard input, by its number.
+const STDIN_FILENO: i32 = 0;
+
+// Standard output, by its number.
+const STDOUT_FILENO: i32 = 1;
 
 // The bytes of a part.
 const PART_ROOM: usize = 65536;

@@ -9,13 +9,18 @@ ghost use Rattle.std.specs.Prelude.{◌≤◌, ◌<◌};
 use lent_bytes::number_at;
 use digits::put_byte;
 use digits::words::put8;
-use libc::{STDIN_FILENO, STDOUT_FILENO};
 use reader::limits::{BYTE_VALUES, MAX_VARIABLES};
 use refusals::{detail_of, number_of};
 use translator::ending::finish;
 use translator::intake::{Intake, Translation, begin, take_bytes};
 use translator::room::{ACTIONS_ROOM, GOAL_ROOM, HEAD_ROOM};
 use translator::translate;
+
+// Standard input, by its number.
+const STDIN_FILENO: i32 = 0;
+
+// Standard output, by its number.
+const STDOUT_FILENO: i32 = 1;
 
 const TEXT_BYTES: usize = 262144;
 

@@ -1,0 +1,15 @@
+-- `calls::clause_line` meets its contract.
+-- Assumes nothing.
+use Rattle.task.proofs.Stated.{file_accepted, indexed, horizon_right}
+use Rattle.text.proofs.Answered.{problem_said, problem_left}
+use borrow.Author.Rules.{rules}
+use Rattle.text.proofs.calls.clause_line.Goals as goal
+
+pub returns-in-Refused : goal.returns-in-Refused
+returns-in-Refused c = (search (rules, problem_said), search (rules, problem_left))
+
+pub fill_index-requires : goal.fill_index-requires
+fill_index-requires c = search (rules, file_accepted)
+
+pub clause_line_indexed-requires : goal.clause_line_indexed-requires
+clause_line_indexed-requires c = search (rules, indexed, horizon_right)

@@ -1,0 +1,15 @@
+-- `calls::header` meets its contract.
+-- Assumes nothing.
+use Rattle.task.proofs.Stated.{file_accepted, indexed, horizon_right}
+use Rattle.text.proofs.Answered.{header_problem_said, header_problem_left}
+use borrow.Author.Rules.{rules}
+use Rattle.text.proofs.calls.header.Goals as goal
+
+pub returns-in-Refused : goal.returns-in-Refused
+returns-in-Refused c = (search (rules, header_problem_said), search (rules, header_problem_left))
+
+pub fill_index-requires : goal.fill_index-requires
+fill_index-requires c = search (rules, file_accepted)
+
+pub header_indexed-requires : goal.header_indexed-requires
+header_indexed-requires c = search (rules, indexed, horizon_right)

@@ -1,0 +1,15 @@
+-- `calls::lines` meets its contract.
+-- Assumes nothing.
+use Rattle.task.proofs.Stated.{file_accepted, indexed, horizon_right}
+use Rattle.text.proofs.Answered.{problem_said, problem_left}
+use borrow.Author.Rules.{rules}
+use Rattle.text.proofs.calls.lines.Goals as goal
+
+pub returns-in-Refused : goal.returns-in-Refused
+returns-in-Refused c = (search (rules, problem_said), search (rules, problem_left))
+
+pub fill_index-requires : goal.fill_index-requires
+fill_index-requires c = search (rules, file_accepted)
+
+pub lines_indexed-requires : goal.lines_indexed-requires
+lines_indexed-requires c = search (rules, indexed, horizon_right)
