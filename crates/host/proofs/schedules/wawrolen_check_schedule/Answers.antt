@@ -1,0 +1,8 @@
+-- `wawrolen_check_schedule` meets its contract.
+-- Assumes nothing.
+use borrow.Author.Rules.{rules}
+use Rattle.host.proofs.Crossing.{told}
+use Rattle.host.proofs.schedules.wawrolen_check_schedule.Goals as goal
+
+pub returns : goal.returns
+returns c = search (rules, told)

@@ -1,0 +1,8 @@
+-- `wawrolen_header` meets its contract.
+-- Assumes nothing.
+use borrow.Author.Rules.{rules}
+use Rattle.host.proofs.TextLaws.{text_told, bytes_counted}
+use Rattle.host.proofs.texts.wawrolen_header.Goals as goal
+
+pub returns : goal.returns
+returns c = search (rules, text_told, bytes_counted)
