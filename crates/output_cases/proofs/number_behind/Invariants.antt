@@ -1,0 +1,10 @@
+-- `number_behind` is safe and ends.
+-- Assumes nothing.
+use Rattle.std.proofs.Common.{◌-◌, length}
+use Rattle.output_cases.proofs.number_behind.Given as goal
+
+abbrev pub invariant-loop-i : goal.invariant-loop-i
+invariant-loop-i l = Unit
+
+abbrev pub decreases-loop-i : goal.decreases-loop-i
+decreases-loop-i l = length l.input - l.i
