@@ -7,8 +7,8 @@ ghost use Rattle.output.specs.Feeding.{feed_leaves, finish_call};
 ghost use Rattle.digits.specs.Over.{over};
 ghost use Rattle.model.specs.Parts.{head_bytes, first_room, most_words, text_room, file_in, lines_in, words_needed, begun, end_text, last_text};
 
-use lent_bytes::number_at;
 use formula::calls::CountsAnswer;
+use lent_bytes::number_at;
 use output::feeding;
 use output::feeding::Feed;
 use rules::{LineAnswer, Reading, Verdict};

@@ -55,8 +55,3 @@ in_turn-right (Refused why) b h = refused_not h
 
 pub in_turn-both : (a b : Verdict) → a ≡ Accepted → b ≡ Accepted → in_turn a b ≡ Accepted
 in_turn-both a b h k = rw (h, k)
-
--- a verdict that does not accept refuses, for some reason
-pub refused_else : (v : Verdict) → (v ≡ Accepted → ⊥) → (why : Refusal) × (v ≡ Refused why)
-refused_else Accepted h = absurd (h refl)
-refused_else (Refused why) h = (why, refl)

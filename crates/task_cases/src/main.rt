@@ -243,7 +243,7 @@ fn decimal(text: &[u8]) -> usize
 // Puts a byte, so many times, at a place; the place behind them.
 fn put(file: &mut [u8], at: usize, byte: u8, times: usize) -> usize
     requires { at ≤ length file.old }
-    ensures* { do ⌜ result ≤ (← (⟦file.len()⟧).entry) ⌝ }
+    ensures { result ≤ length file.old }
 {
     let mut i = 0;
     while i < times {
@@ -277,7 +277,7 @@ fn times(text: &[u8]) -> usize
 
 // The bytes that a line states in hex, parted by spaces; how many there are.
 fn decode(line: &[u8], file: &mut [u8]) -> usize
-    ensures* { do ⌜ result ≤ (← (⟦file.len()⟧).entry) ⌝ }
+    ensures { result ≤ length file.old }
 {
     let mut bytes = 0;
     let mut i = place_of(line, 0, b' ');

@@ -6,9 +6,9 @@
 
 ghost use Rattle.std.specs.Prelude.{◌≤◌, ◌<◌};
 
-use lent_bytes::number_at;
 use digits::put_byte;
 use digits::words::put8;
+use lent_bytes::number_at;
 use reader::limits::{BYTE_VALUES, MAX_VARIABLES};
 use refusals::{detail_of, number_of};
 use translator::ending::finish;

@@ -2,14 +2,11 @@
 -- Assumes nothing.
 use borrow.Author.Rules.{rules}
 use Rattle.task.proofs.Stated.{file_accepted, horizon_right, indexed}
-use Rattle.rules.proofs.Judging.{refused_else}
 use Rattle.schedule.proofs.BackLaws.{problem_wrong}
 use Rattle.schedule.proofs.way_back.Goals as goal
 
 pub returns-in_default : goal.returns-in_default
-returns-in_default c =
-    let why = refused_else _ c.in_default.not-Accepted in
-    problem_wrong _ _ _ _ _ _ why.0 c.problem_verdict-problem.ensures why.1
+returns-in_default c = problem_wrong _ _ _ _ _ _ _ c.problem_verdict-problem.ensures c.in_default.is
 
 pub fill_index-requires : goal.fill_index-requires
 fill_index-requires c = (search (rules, file_accepted), search rules)

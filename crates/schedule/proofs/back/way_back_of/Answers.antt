@@ -1,7 +1,6 @@
 -- `way_back_of` meets its contract.
 -- Assumes nothing.
 use borrow.Author.Rules.{rules}
-use Rattle.rules.proofs.Judging.{refused_else}
 use Rattle.schedule.proofs.BackLaws.{too_little, given_fits, truth_fits, entries_fit, schedule_wrong, can_be_carried, schedule_right}
 use Rattle.schedule.proofs.back.way_back_of.Goals as goal
 
@@ -12,9 +11,7 @@ pub schedule_verdict-verdict-requires : goal.schedule_verdict-verdict-requires
 schedule_verdict-verdict-requires c = search (rules, entries_fit)
 
 pub returns-in_default : goal.returns-in_default
-returns-in_default c =
-    let why = refused_else _ c.in_default.not-Accepted in
-    schedule_wrong _ _ _ _ _ (search rules) (search rules) _ c.enough.ensures (search rules) _ c.schedule_verdict-verdict.ensures why.0 why.1
+returns-in_default c = schedule_wrong _ _ _ _ _ (search rules) (search rules) _ c.enough.ensures (search rules) _ c.schedule_verdict-verdict.ensures _ c.in_default.is
 
 pub give_all-requires : goal.give_all-requires
 give_all-requires c = search (rules, given_fits)

@@ -1,0 +1,24 @@
+-- `print_answer` meets its contract.
+-- Assumes nothing.
+use Rattle.task.proofs.Stated.{file_accepted, indexed, horizon_right}
+use Rattle.clauses.proofs.Prefix.{prefix_long, refusal_here, refusal_counted, text_counted}
+use borrow.Author.Rules.{rules}
+use Rattle.clauses.proofs.print_answer.Goals as goal
+
+pub slice_bounds-write_all-end : goal.slice_bounds-write_all-end
+slice_bounds-write_all-end c = search (rules, refusal_here)
+
+pub slice_bounds-write_all-end-in-Refused : goal.slice_bounds-write_all-end-in-Refused
+slice_bounds-write_all-end-in-Refused c = search (rules, prefix_long, refusal_here)
+
+pub returns-in-Refused : goal.returns-in-Refused
+returns-in-Refused c = search (rules, refusal_counted)
+
+pub fill_index-requires : goal.fill_index-requires
+fill_index-requires c = search (rules, file_accepted)
+
+pub print_formula-requires : goal.print_formula-requires
+print_formula-requires c = search (rules, indexed, horizon_right)
+
+pub returns : goal.returns
+returns c = search (rules, text_counted)

@@ -1,0 +1,20 @@
+-- `end_text` meets its contract.
+-- Assumes nothing.
+use borrow.Author.Rules.{rules}
+use Rattle.model.proofs.Ways.{end_refused, end_refused_behind, part_within, part_length, part_fits, end_accepted, end_accepted_behind}
+use Rattle.model.proofs.parts.end_text.Goals as goal
+
+pub slice_bounds-entries-end : goal.slice_bounds-entries-end
+slice_bounds-entries-end c = search (rules, part_within)
+
+pub slice_bounds-schedule_text-end : goal.slice_bounds-schedule_text-end
+slice_bounds-schedule_text-end c = search (rules, part_length)
+
+pub schedule_text-requires : goal.schedule_text-requires
+schedule_text-requires c = search (rules, part_fits)
+
+pub returns-in-Refused : goal.returns-in-Refused
+returns-in-Refused c = search (rules, end_refused, end_refused_behind)
+
+pub returns-in-Accepted : goal.returns-in-Accepted
+returns-in-Accepted c = search (rules, end_accepted, end_accepted_behind)
