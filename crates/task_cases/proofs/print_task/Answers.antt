@@ -9,6 +9,3 @@ preconditions_before-requires c = search (rules, actions_few)
 
 pub effects_before-requires : goal.effects_before-requires
 effects_before-requires c = search (rules, actions_few)
-
-pub task_cases::print_start : goal.task_cases::print_start
-task_cases::print_start c = search (rules, actions_few)
