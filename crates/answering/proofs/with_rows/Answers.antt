@@ -1,0 +1,14 @@
+-- `with_rows` is safe and ends.
+-- Assumes nothing.
+use borrow.Author.Rules.{rules}
+use Rattle.answering.proofs.Laws.{prefix_length}
+use Rattle.answering.proofs.with_rows.Goals as goal
+
+pub slice_bounds-answer-end-2 : goal.slice_bounds-answer-end-2
+slice_bounds-answer-end-2 c = search (rules, prefix_length)
+
+pub slice_bounds-answer-end-4 : goal.slice_bounds-answer-end-4
+slice_bounds-answer-end-4 c = search (rules, prefix_length)
+
+pub slice_bounds-answer-end-6 : goal.slice_bounds-answer-end-6
+slice_bounds-answer-end-6 c = search (rules, prefix_length)
