@@ -16,7 +16,7 @@ use Rattle.rules.specs.Counting.{first, any, when}
 use Rattle.rules.specs.Limits.{max_horizon, max_actions}
 use Rattle.rules.specs.Task.{Task, n, d, A, pair, action}
 use Rattle.rules.specs.Numbering.{action_number}
-use Rattle.rules.specs.Families.{plus, gives, supporters}
+use Rattle.rules.specs.Families.{plus, supporters}
 use Rattle.rules.specs.Rows.{Rows}
 use Rattle.rules.specs.Truth.{literal_true, model_in}
 use Rattle.rules.specs.File.{task_of}

@@ -13,7 +13,6 @@ use Rattle.rules.specs.File.{byte}
 use Rattle.rules.specs.Text.{space}
 use Rattle.rules.specs.Lines.{agree, same, says_satisfiable, says_unsatisfiable, says_unknown, is_status, status_reach, phase_said, awaits_status, comment, status, kind_verdict, phase_after, named, progress}
 use Rattle.rules.specs.declared.Refusal.TheVariants.{Grammar, OutOfPlace}
-use Rattle.rules.specs.declared.Verdict.TheVariants.{Refused}
 use Rattle.rules.specs.declared.Phase.{Phase}
 use Rattle.rules.specs.declared.Phase.TheVariants.{ModelOpen, SaidUnsatisfiable, SaidUnknown}
 use Rattle.rules.specs.declared.Reading.{Reading}

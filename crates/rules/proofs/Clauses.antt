@@ -4,7 +4,7 @@ use mathlib.Core.Path.{◌≡◌, refl, ap}
 use mathlib.Core.Logic.{◌⊎◌, inl, inr, ⊎_elim}
 use mathlib.Core.Bool.{Bool, true, false, not}
 use mathlib.Core.List.{[], ◌∷◌}
-use Prim.Native.Nat.{ℕ, suc, ◌-◌, ◌<◌}
+use Prim.Native.Nat.{ℕ, suc, ◌<◌}
 use lib.ListN.{length}
 use Rattle.rules.specs.Counting.{table, when, any}
 use Rattle.rules.specs.Task.{n, d, A, start_value, pair, action}

@@ -1,7 +1,7 @@
 -- An assignment laid out in the order of the numbering: what stands at the number of a value or of an action, and that nothing else stands there.
 -- Assumes nothing.
 use mathlib.Core.Path.{◌≡◌, sym, ap, ap₂, ◌∙◌}
-use mathlib.Core.Logic.{◌⊎◌, ⊎_elim}
+use mathlib.Core.Logic.{⊎_elim}
 use mathlib.Core.Bool.{Bool, false}
 use mathlib.Core.List.{List, [], ◌∷◌, ◌++◌}
 use Prim.Native.Nat.{ℕ, suc, ◌+◌, ◌-◌, ◌*◌, ◌≤◌, ◌<◌}

@@ -1,7 +1,7 @@
 -- All good schedules for a horizon, listed by trying every row of entries: each good schedule stands in the list, and nothing else does.
 -- Assumes nothing.
 use mathlib.Core.Path.{◌≡◌, refl, sym, ap, ◌∙◌}
-use mathlib.Core.Logic.{◌⊎◌, ⊎_elim}
+use mathlib.Core.Logic.{⊎_elim}
 use mathlib.Core.Bool.{Bool, true, false}
 use mathlib.Core.List.{List, [], ◌∷◌, ◌++◌, map, Memᴰ}
 use Prim.Native.Nat.{ℕ, zero, suc, ◌≤◌, ◌<◌}

@@ -9,7 +9,7 @@ use native.Mathlib.Omega.{arith}
 use borrow.Author.Tests.{eqb-true, eq-eqb}
 use lib.Dec.{eqb}
 use lib.ListN.{length, get_or}
-use Rattle.rules.specs.Counting.{every, any}
+use Rattle.rules.specs.Counting.{every}
 use Rattle.rules.specs.Task.{Pair, n, d, A, pair, action}
 use Rattle.rules.specs.Problem.{Problem}
 use Rattle.rules.specs.Numbering.{value_number, action_number, N}

@@ -1,7 +1,7 @@
 -- Rule 1: a schedule of entries is a run with at most one move a step. With the pairing this is demand 3.
 -- Assumes nothing.
 use mathlib.Core.Path.{◌≡◌, refl, sym, ap, ◌∙◌}
-use mathlib.Core.Logic.{◌⊎◌, ⊎_elim}
+use mathlib.Core.Logic.{⊎_elim}
 use mathlib.Core.Bool.{Bool, true, false, cond, not}
 use mathlib.Core.List.{List}
 use Prim.Native.Nat.{ℕ, zero, suc, ◌-◌, ◌≤◌, ◌<◌}
@@ -12,7 +12,7 @@ use lib.ListN.{length, get_or, take, get_or-eq_default}
 use lib.Seq.{ext_get_or, length-take-le, get_or-take}
 use Rattle.rules.specs.Counting.{first}
 use Rattle.rules.specs.Answers.{judge}
-use Rattle.rules.specs.Task.{Task, A, pair, action}
+use Rattle.rules.specs.Task.{Task, A, pair}
 use Rattle.rules.specs.Problem.{Problem, problem}
 use Rattle.rules.specs.Numbering.{action_number, N}
 use Rattle.rules.specs.Families.{formula}

@@ -20,7 +20,7 @@ use Rattle.rules.specs.declared.Verdict.TheVariants.{Accepted}
 use Rattle.rules.specs.declared.Phase.TheVariants.{NoStatus, ModelOpen, ModelClosed}
 use Rattle.rules.specs.declared.LineAnswer.{LineAnswer}
 use Rattle.rules.specs.Text.{ascii, space, digit0, dash, decimal, literal_text}
-use Rattle.rules.specs.Lines.{pieces, is_digit, digits, reach, is_number, value_from, variable_of, literal_of, Scan, word_rules, scan_word, scan_piece, scan_pieces, scan_start, scan_line, agree, same, says_satisfiable, says_unsatisfiable, says_unknown, is_status, phase_said, kind_of, kind_verdict, line_verdict, phase_after, named, rows_fit, read_line}
+use Rattle.rules.specs.Lines.{pieces, is_digit, reach, is_number, value_from, variable_of, literal_of, Scan, word_rules, scan_word, scan_piece, scan_pieces, scan_start, scan_line, agree, same, says_satisfiable, says_unsatisfiable, says_unknown, is_status, phase_said, kind_of, kind_verdict, line_verdict, phase_after, named, rows_fit, read_line}
 use Rattle.rules.proofs.Bools.{and_left, and_right, and_both, or_right, not_true, below_or}
 use Rattle.rules.proofs.Judging.{judge_cons, judge_nil}
 use Rattle.rules.proofs.Counting.{every_get_or, first_none}

@@ -1,6 +1,6 @@
 -- The Fast Downward translator's text, format version 3: what each line has to be, in the format's own order, and what it says.
 -- Assumes nothing.
-use Rattle.std.specs.Prelude.{ℕ, ◌+◌, Bool, false, cond, not, ◌&&◌, ◌||◌, List, [], ◌∷◌, ◌++◌, leb, ltb, eqb, length, get_or}
+use Rattle.std.specs.Prelude.{ℕ, Bool, false, cond, not, ◌&&◌, ◌||◌, List, [], ◌∷◌, ◌++◌, leb, ltb, eqb, length, get_or}
 use Rattle.rules.specs.Counting.{every, times}
 use Rattle.rules.specs.Limits.{max_text_digits, format_version}
 use Rattle.rules.specs.Answers.{Rule, demand}

@@ -4,13 +4,13 @@ use mathlib.Core.Path.{◌≡◌, refl, sym, ap, ◌∙◌}
 use mathlib.Core.Bool.{Bool, true, false, not}
 use mathlib.Core.Logic.{⊎_elim}
 use mathlib.Core.List.{List, [], ◌∷◌, ◌++◌}
-use Prim.Native.Nat.{ℕ, ◌+◌, ◌-◌, ◌*◌, ◌≤◌, ◌<◌}
+use Prim.Native.Nat.{ℕ, ◌+◌, ◌*◌, ◌≤◌, ◌<◌}
 use native.Mathlib.Omega.{arith}
 use native.Mathlib.Numerals.{add-one}
 use lib.Dec.{eqb}
 use lib.ListN.{length, get_or, set, get_or-eq_default}
 use lib.Seq.{ext_get_or, get_or-set_same, get_or-set_other}
-use Rattle.rules.specs.Counting.{first, for_each, every}
+use Rattle.rules.specs.Counting.{for_each, every}
 use Rattle.rules.specs.Limits.{max_variables, pair_bytes, count_bytes}
 use Rattle.rules.specs.Task.{Pair, pair}
 use Rattle.rules.specs.File.{byte, pairs_at, action_in}

@@ -36,8 +36,11 @@ one_after κs a r s x p q = same_state r s _ p q
 abbrev pub Left : (state : State) (action : List ℕ) → State → Type 0
 Left state action z = z.values ≡ set_pairs state.values (action_in action).effects
 
-apply_promises : (κs : _) (a : _) (r : _) (x : _) → apply.Post κs a r x → Left a.0.now a.1.0.now x.0.now
-apply_promises κs a r x p = p
+apply_promises : (κs : _) (a : _) (r : _) (x : _) → apply.Post κs a r x ≡ Left a.0.now a.1.0.now x.0.now
+apply_promises κs a r x = refl
 
 pub one_apply : (state : State) (action : List ℕ) (y z : State) → Left state action y → Left state action z → y ≡ z
 one_apply state action y z p q = same_state y z _ p q
+
+pub one_apply_call : (κs : _) (a : _) (r s : _) (x y : _) → apply.Post κs a r x → apply.Post κs a s y → x.0.now ≡ y.0.now
+one_apply_call κs a r s x y p q = one_apply a.0.now a.1.0.now x.0.now y.0.now p q

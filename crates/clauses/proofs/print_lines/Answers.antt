@@ -1,5 +1,4 @@
 -- Assumes nothing.
-use Prim.Native.Nat.{◌-◌}
 use Rattle.clauses.proofs.Prefix.{prefix_long, lines_refused, lines_within, next_below, next_fits, next_less}
 use borrow.Author.Rules.{rules}
 use Rattle.clauses.proofs.print_lines.Goals as goal

@@ -1,5 +1,4 @@
 -- Assumes nothing.
-use Prim.Native.Nat.{◌-◌}
 use borrow.Author.Rules.{rules}
 use Rattle.digits.proofs.Writing.{count_start, count_more, count_end}
 use Rattle.digits.proofs.digit_count.Goals as goal

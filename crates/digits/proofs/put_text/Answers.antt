@@ -1,5 +1,4 @@
 -- Assumes nothing.
-use Prim.Native.Nat.{◌-◌}
 use borrow.Author.Rules.{rules}
 use Rattle.digits.proofs.PartBehindPart.{written_none, text_more, text_within, text_is, text_behind_lem}
 use Rattle.digits.proofs.put_text.Goals as goal

@@ -1,5 +1,4 @@
 -- Assumes nothing.
-use Prim.Native.Nat.{◌-◌}
 use borrow.Author.Rules.{rules}
 use Rattle.pairs.proofs.Halving.{bracket_down, bracket_up, half_sooner}
 use Rattle.pairs.proofs.Pair.{pairs_start, begun_at, second_fits, pair_found}

@@ -1,5 +1,4 @@
 -- Assumes nothing.
-use Prim.Native.Nat.{◌-◌}
 use borrow.Author.Rules.{rules}
 use Rattle.printing.proofs.Texts.{lines_none, lines_kept, line_fits, lines_more, lines_are, lines_behind}
 use Rattle.printing.proofs.schedule_text.Goals as goal

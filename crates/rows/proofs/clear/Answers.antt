@@ -1,5 +1,4 @@
 -- Assumes nothing.
-use Prim.Native.Nat.{◌-◌}
 use borrow.Author.Rules.{rules}
 use Rattle.rows.proofs.Bits.{cleared_none, cleared_more, cleared_all}
 use Rattle.rows.proofs.clear.Goals as goal

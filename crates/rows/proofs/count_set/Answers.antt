@@ -1,5 +1,4 @@
 -- Assumes nothing.
-use Prim.Native.Nat.{◌-◌}
 use borrow.Author.Rules.{rules}
 use Rattle.rows.proofs.StretchLaws.{count_none, count_on, count_all}
 use Rattle.rows.proofs.count_set.Goals as goal

@@ -1,5 +1,4 @@
 -- Assumes nothing.
-use Prim.Native.Nat.{◌-◌}
 use borrow.Author.Rules.{rules}
 use Rattle.rows.proofs.StretchLaws.{none_none, none_on, first_here, first_nowhere}
 use Rattle.rows.proofs.first_set.Goals as goal

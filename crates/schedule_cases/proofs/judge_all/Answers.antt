@@ -1,5 +1,4 @@
 -- Assumes nothing.
-use Prim.Native.Nat.{◌-◌}
 use borrow.Author.Rules.{rules}
 use lib.Seq.{length-take-le}
 use Rattle.schedule_cases.proofs.judge_all.Goals as goal

@@ -1,5 +1,4 @@
 -- Assumes nothing.
-use Prim.Native.Nat.{◌-◌}
 use Rattle.translate.proofs.Prints.{some_none, some_more, some_few, part_of}
 use borrow.Author.Rules.{rules}
 use Rattle.translate.proofs.take_parts.Goals as goal

@@ -1,5 +1,4 @@
 -- Assumes nothing.
-use Prim.Native.Nat.{◌-◌}
 use borrow.Author.Rules.{rules}
 use Rattle.walk.proofs.Loops.{met_none, met_next, met_all, met_not}
 use Rattle.walk.proofs.first_unmet.Goals as goal

@@ -1,5 +1,4 @@
 -- Assumes nothing.
-use Prim.Native.Nat.{◌-◌}
 use borrow.Author.Rules.{rules}
 use Rattle.walk.proofs.Loops.{set_none, set_next, set_all, set_keeps}
 use Rattle.walk.proofs.set_pairs.Goals as goal

@@ -1,5 +1,4 @@
 -- Assumes nothing.
-use Prim.Native.Nat.{◌-◌}
 use borrow.Author.Rules.{rules}
 use Rattle.walk.proofs.Loops.{filled_next, start_filled}
 use Rattle.walk.proofs.start.Goals as goal

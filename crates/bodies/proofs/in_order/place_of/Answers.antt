@@ -1,5 +1,4 @@
 -- Assumes nothing.
-use Prim.Native.Nat.{◌-◌}
 use borrow.Author.Rules.{rules}
 use Rattle.bodies.proofs.InOrder.{none_larger_yet, none_larger_more, place_found, place_behind}
 use Rattle.bodies.proofs.in_order.place_of.Goals as goal

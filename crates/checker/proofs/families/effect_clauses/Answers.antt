@@ -1,5 +1,4 @@
 -- Assumes nothing.
-use Prim.Native.Nat.{◌-◌}
 use Rattle.checker.proofs.ItemLaws.{effect_action, effect_again, effect_all, effect_fails, effect_fits, effect_idle, effect_item, effect_next, effect_step, effect_there, pairs_yet, step_low}
 use borrow.Author.Rules.{rules}
 use Rattle.checker.proofs.families.effect_clauses.Goals as goal

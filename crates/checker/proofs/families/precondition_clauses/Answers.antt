@@ -1,5 +1,4 @@
 -- Assumes nothing.
-use Prim.Native.Nat.{◌-◌}
 use Rattle.checker.proofs.ItemLaws.{pairs_yet, precondition_action, precondition_again, precondition_all, precondition_fails, precondition_fits, precondition_idle, precondition_item, precondition_there, step_low}
 use borrow.Author.Rules.{rules}
 use Rattle.checker.proofs.families.precondition_clauses.Goals as goal

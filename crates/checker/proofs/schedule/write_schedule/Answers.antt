@@ -1,5 +1,4 @@
 -- Assumes nothing.
-use Prim.Native.Nat.{◌-◌}
 use Rattle.checker.proofs.ScheduleLaws.{entries_more}
 use Rattle.checker.proofs.ScheduleLaws.{entries_all, entries_none}
 use borrow.Author.Rules.{rules}

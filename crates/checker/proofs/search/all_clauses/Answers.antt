@@ -1,5 +1,4 @@
 -- Assumes nothing.
-use Prim.Native.Nat.{◌-◌}
 use Rattle.checker.proofs.Moving.{count_all, count_fits, count_more, count_yet}
 use borrow.Author.Rules.{rules}
 use Rattle.checker.proofs.search.all_clauses.Goals as goal

@@ -1,5 +1,4 @@
 -- Assumes nothing.
-use Prim.Native.Nat.{◌-◌}
 use Rattle.checker.proofs.Moving.{step_fits, step_found, step_passed, step_there, steps_done}
 use borrow.Author.Rules.{rules}
 use Rattle.checker.proofs.search.in_family.Goals as goal

@@ -1,5 +1,4 @@
 -- Assumes nothing.
-use Prim.Native.Nat.{◌-◌}
 use Rattle.checker.proofs.Moving.{come_here, item_fits, item_found, item_passed, item_there, items_done}
 use borrow.Author.Rules.{rules}
 use Rattle.checker.proofs.search.in_step.Goals as goal

@@ -1,5 +1,4 @@
 -- Assumes nothing.
-use Prim.Native.Nat.{◌-◌}
 use Rattle.checker.proofs.Moving.{families_done, family_fits, family_found, family_passed, start_here}
 use borrow.Author.Rules.{rules}
 use Rattle.checker.proofs.search.lowest_unmet.Goals as goal

@@ -1,6 +1,5 @@
 -- Assumes nothing.
 use Rattle.rules.proofs.Loops.{none_yet, none_more}
-use Prim.Native.Nat.{◌-◌}
 use Rattle.checker.proofs.StayLaws.{given_found, given_none, given_there}
 use borrow.Author.Rules.{rules}
 use Rattle.checker.proofs.stays.gives.Goals as goal

@@ -1,6 +1,5 @@
 -- Assumes nothing.
 use Rattle.checker.proofs.ItemLaws.{pairs_yet}
-use Prim.Native.Nat.{◌-◌}
 use Rattle.checker.proofs.StayLaws.{stay_again, stay_all, stay_fails, stay_fits, stay_item, stay_step, stay_there}
 use borrow.Author.Rules.{rules}
 use Rattle.checker.proofs.stays.stay_clauses.Goals as goal

@@ -1,6 +1,5 @@
 -- Assumes nothing.
 use Rattle.rules.proofs.Loops.{none_yet}
-use Prim.Native.Nat.{◌-◌}
 use Rattle.checker.proofs.StayLaws.{action_there, from_fits, from_positive, from_room, later_fits, next_fits, some_action, support_again, support_end, support_found, support_none}
 use borrow.Author.Rules.{rules}
 use Rattle.checker.proofs.stays.supported.Goals as goal

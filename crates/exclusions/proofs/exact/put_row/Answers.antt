@@ -1,5 +1,4 @@
 -- Assumes nothing.
-use Prim.Native.Nat.{◌-◌}
 use Rattle.exclusions.proofs.Rowing.{row_start, row_line, line_room_lem, row_end, row_within}
 use borrow.Author.Rules.{rules}
 use Rattle.exclusions.proofs.exact.put_row.Goals as goal

@@ -1,5 +1,4 @@
 -- Assumes nothing.
-use Prim.Native.Nat.{◌-◌}
 use Rattle.exclusions.proofs.ByBytes.{number_below}
 use Rattle.exclusions.proofs.Rowing.{signs_fit, tens_start, tens_least, tens_most, tens_room, tens_more, tens_end, tens_within}
 use borrow.Author.Rules.{rules}

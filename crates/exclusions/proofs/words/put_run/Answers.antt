@@ -1,5 +1,4 @@
 -- Assumes nothing.
-use Prim.Native.Nat.{◌-◌}
 use Rattle.exclusions.proofs.ByWords.{running_start, running_more, running_room, running_fits, running_end, running_within}
 use borrow.Author.Rules.{rules}
 use Rattle.exclusions.proofs.words.put_run.Goals as goal

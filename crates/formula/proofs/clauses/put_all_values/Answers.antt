@@ -1,5 +1,4 @@
 -- Assumes nothing.
-use Prim.Native.Nat.{◌-◌}
 use borrow.Author.Rules.{rules}
 use Rattle.formula.proofs.Spelled.{values_all, values_room, values_none, values_more}
 use Rattle.formula.proofs.clauses.put_all_values.Goals as goal

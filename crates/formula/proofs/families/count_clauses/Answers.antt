@@ -1,5 +1,4 @@
 -- Assumes nothing.
-use Prim.Native.Nat.{◌-◌}
 use borrow.Author.Rules.{rules}
 use Rattle.formula.proofs.Counted.{before_none, sum_fits, sum_next, sum_all}
 use Rattle.formula.proofs.families.count_clauses.Goals as goal

@@ -1,5 +1,4 @@
 -- Assumes nothing.
-use Prim.Native.Nat.{◌-◌}
 use borrow.Author.Rules.{rules}
 use Rattle.formula.proofs.ByPlace.{ranked_first, ranked_more, ranked_next, ranked_here}
 use Rattle.formula.proofs.placing.family_of.Goals as goal

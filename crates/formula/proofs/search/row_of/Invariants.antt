@@ -3,7 +3,6 @@
 use mathlib.Core.Path.{◌≡◌}
 use Prim.Native.Nat.{ℕ, ◌-◌, ◌^◌, ◌≤◌}
 use native.Mathlib.Omega.{arith}
-use borrow.Author.Rules.{rules}
 use Rattle.pairs.specs.Halving.{halvings}
 use Rattle.pairs.proofs.Halving.{Bracket, few_turns}
 use Rattle.formula.specs.Parts.{column}

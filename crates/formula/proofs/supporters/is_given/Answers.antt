@@ -1,5 +1,4 @@
 -- Assumes nothing.
-use Prim.Native.Nat.{◌-◌}
 use Rattle.rules.proofs.Loops.{none_yet, none_more}
 use borrow.Author.Rules.{rules}
 use Rattle.formula.proofs.Supported.{action_there, effect_below, given_by, given_by_none, effects_there}

@@ -1,5 +1,4 @@
 -- Assumes nothing.
-use Prim.Native.Nat.{◌-◌}
 use borrow.Author.Rules.{rules}
 use Rattle.formula.proofs.Supported.{put_none, put_room, put_next, put_all}
 use Rattle.formula.proofs.supporters.put_supporters.Goals as goal

@@ -1,5 +1,4 @@
 -- Assumes nothing.
-use Prim.Native.Nat.{◌-◌}
 use borrow.Author.Rules.{rules}
 use Rattle.formula.proofs.Supported.{count_none, count_next, count_all}
 use Rattle.formula.proofs.supporters.supporter_count.Goals as goal

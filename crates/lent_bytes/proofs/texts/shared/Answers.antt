@@ -1,5 +1,4 @@
 -- Assumes nothing.
-use Prim.Native.Nat.{◌-◌}
 use borrow.Author.Rules.{rules}
 use Rattle.lent_bytes.proofs.SameLaws.{shared_all, shared_short, shared_differ, shared_on}
 use Rattle.lent_bytes.proofs.texts.shared.Goals as goal

@@ -1,5 +1,4 @@
 -- Assumes nothing.
-use Prim.Native.Nat.{◌-◌}
 use borrow.Author.Rules.{rules}
 use Rattle.lent_bytes.proofs.WordLaws.{ends_here, ends_on, ends_last}
 use Rattle.lent_bytes.proofs.words.piece_end.Goals as goal

@@ -1,5 +1,4 @@
 -- Assumes nothing.
-use Prim.Native.Nat.{◌-◌}
 use borrow.Author.Rules.{rules}
 use Rattle.lent_bytes.proofs.WordLaws.{room_tenfold, room_next, value_grows, value_on, value_done}
 use Rattle.lent_bytes.proofs.words.value.Goals as goal

@@ -1,5 +1,4 @@
 -- Assumes nothing.
-use Prim.Native.Nat.{◌-◌}
 use Rattle.lines.proofs.ByPlace.{values_start, value_room, values_more, end_room_lem, values_end, values_within}
 use borrow.Author.Rules.{rules}
 use Rattle.lines.proofs.clauses.put_all_values.Goals as goal

@@ -1,5 +1,4 @@
 -- Assumes nothing.
-use Prim.Native.Nat.{◌-◌}
 use Rattle.rules.proofs.Loops.{none_yet, none_more}
 use Rattle.lines.proofs.Noting.{value_found, none_found}
 use borrow.Author.Rules.{rules}

@@ -1,5 +1,4 @@
 -- Assumes nothing.
-use Prim.Native.Nat.{◌-◌}
 use Rattle.lines.proofs.Noting.{note_start, note_below, note_more, note_all}
 use borrow.Author.Rules.{rules}
 use Rattle.lines.proofs.stays.note_given.Goals as goal

@@ -1,5 +1,4 @@
 -- Assumes nothing.
-use Prim.Native.Nat.{◌-◌}
 use Rattle.lines.proofs.Supported.{support_start, support_room, action_noted, support_more, support_end, support_within}
 use borrow.Author.Rules.{rules}
 use Rattle.lines.proofs.stays.put_supporters.Goals as goal

@@ -1,5 +1,4 @@
 -- Assumes nothing.
-use Prim.Native.Nat.{◌-◌}
 use borrow.Author.Rules.{rules}
 use Rattle.lent_bytes.proofs.WordLaws.{piece_alone}
 use Rattle.output.proofs.FeedLaws.{room_line, fed_on, call_short, call_done}

@@ -1,5 +1,4 @@
 -- Assumes nothing.
-use Prim.Native.Nat.{◌-◌}
 use borrow.Author.Rules.{rules}
 use Rattle.output.proofs.TrialLaws.{tried_start, tried_stopped, tried_on, tried_through}
 use Rattle.output.proofs.numbers.try_numbers.Goals as goal

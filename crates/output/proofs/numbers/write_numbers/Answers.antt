@@ -1,5 +1,4 @@
 -- Assumes nothing.
-use Prim.Native.Nat.{◌-◌}
 use borrow.Author.Rules.{rules}
 use Rattle.output.proofs.TrialLaws.{writes_start, writes_on, writes_done}
 use Rattle.output.proofs.numbers.write_numbers.Goals as goal

@@ -1,5 +1,4 @@
 -- Assumes nothing.
-use Prim.Native.Nat.{◌-◌}
 use borrow.Author.Rules.{rules}
 use Rattle.output.proofs.WordLaws.{run_none, run_full, run_stops, run_ends, run_on, digit_above, digit_fits, run_tenfold, run_next, run_grows, run_value, value_none}
 use Rattle.output.proofs.words.digit_run.Goals as goal

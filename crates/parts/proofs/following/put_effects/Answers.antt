@@ -1,5 +1,4 @@
 -- Assumes nothing.
-use Prim.Native.Nat.{◌-◌}
 use Rattle.parts.proofs.InTurn.{lines_start, end_inside, effect_there, lines_more, effect_short, effect_part}
 use borrow.Author.Rules.{rules}
 use Rattle.parts.proofs.following.put_effects.Goals as goal

@@ -1,5 +1,4 @@
 -- Assumes nothing.
-use Prim.Native.Nat.{◌-◌}
 use Rattle.parts.proofs.InTurn.{lines_start, end_inside, precondition_there, lines_more, precondition_short, precondition_part}
 use borrow.Author.Rules.{rules}
 use Rattle.parts.proofs.following.put_preconditions.Goals as goal

@@ -1,5 +1,4 @@
 -- Assumes nothing.
-use Prim.Native.Nat.{◌-◌}
 use Rattle.parts.proofs.InTurn.{lines_start, end_inside, stays_there, lines_more, stays_short, stays_part}
 use borrow.Author.Rules.{rules}
 use Rattle.parts.proofs.following.put_values.Goals as goal

@@ -1,5 +1,4 @@
 -- Assumes nothing.
-use Prim.Native.Nat.{◌-◌}
 use Rattle.parts.proofs.OneLine.{copy_start, copy_more, copy_end}
 use borrow.Author.Rules.{rules}
 use Rattle.parts.proofs.single.copy.Goals as goal

@@ -1,6 +1,5 @@
 -- Assumes nothing.
 use borrow.Author.Rules.{rules}
-use Prim.Native.Nat.{◌-◌}
 use Rattle.rules.proofs.Loops.{none_yet}
 use Rattle.rules.proofs.Rests.{reached_none}
 use Rattle.reader.proofs.ReadActions.{action_fits, action_less, action_passed, action_fine, actions_over, actions_wrong, actions_accepted}

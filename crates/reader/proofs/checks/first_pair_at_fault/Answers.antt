@@ -1,6 +1,5 @@
 -- Assumes nothing.
 use borrow.Author.Rules.{rules}
-use Prim.Native.Nat.{◌-◌}
 use Rattle.rules.proofs.Loops.{none_yet, none_more, found_at, none_at_all}
 use Rattle.reader.proofs.ReadChecks.{fault_among}
 use Rattle.reader.proofs.checks.first_pair_at_fault.Goals as goal

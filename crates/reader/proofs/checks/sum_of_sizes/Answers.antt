@@ -1,6 +1,5 @@
 -- Assumes nothing.
 use borrow.Author.Rules.{rules}
-use Prim.Native.Nat.{◌-◌}
 use Rattle.reader.proofs.ReadChecks.{sum_all}
 use Rattle.rules.proofs.Loops.{sum_yet, sum_more}
 use Rattle.reader.proofs.checks.sum_of_sizes.Goals as goal

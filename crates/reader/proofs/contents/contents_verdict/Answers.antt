@@ -1,6 +1,5 @@
 -- Assumes nothing.
 use borrow.Author.Rules.{rules}
-use Prim.Native.Nat.{◌-◌}
 use Rattle.rules.proofs.Loops.{none_yet, none_more}
 use Rattle.reader.proofs.ReadContents.{file_short, file_long, row_refused, rows_accepted}
 use Rattle.reader.proofs.contents.contents_verdict.Goals as goal

@@ -1,5 +1,4 @@
 -- Assumes nothing.
-use Prim.Native.Nat.{◌-◌}
 use borrow.Author.Rules.{rules}
 use Rattle.schedule.proofs.WalkLaws.{over_none, over_more, over_here, over_nowhere}
 use Rattle.schedule.proofs.walking.first_over.Goals as goal

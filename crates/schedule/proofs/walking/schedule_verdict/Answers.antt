@@ -1,5 +1,4 @@
 -- Assumes nothing.
-use Prim.Native.Nat.{◌-◌}
 use borrow.Author.Rules.{rules}
 use Rattle.task.proofs.Bytes.{contents_ok}
 use Rattle.schedule.proofs.WalkLaws.{came_none, came_more, over_refused, entry_known, stuck_refused, goal_is, goal_refused, goal_met}

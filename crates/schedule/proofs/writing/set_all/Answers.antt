@@ -1,5 +1,4 @@
 -- Assumes nothing.
-use Prim.Native.Nat.{◌-◌}
 use borrow.Author.Rules.{rules}
 use Rattle.schedule.proofs.WriteLaws.{all_none, all_more, all_done}
 use Rattle.schedule.proofs.writing.set_all.Goals as goal

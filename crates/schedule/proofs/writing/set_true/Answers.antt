@@ -1,5 +1,4 @@
 -- Assumes nothing.
-use Prim.Native.Nat.{◌-◌}
 use borrow.Author.Rules.{rules}
 use Rattle.schedule.proofs.WriteLaws.{steps_none, steps_more, steps_done, state_none, state_more, known_now, inside_now}
 use Rattle.schedule.proofs.writing.set_true.Goals as goal

@@ -1,6 +1,4 @@
 -- Assumes nothing.
-use Prim.Native.Nat.{◌-◌}
-use native.Mathlib.Omega.{arith}
 use borrow.Author.Rules.{rules}
 use Rattle.schedule.proofs.WriteLaws.{value_there, value_inside, values_none, values_more, values_done}
 use Rattle.schedule.proofs.writing.set_values.Goals as goal

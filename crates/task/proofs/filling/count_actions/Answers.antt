@@ -1,6 +1,5 @@
 -- Assumes nothing.
 use borrow.Author.Rules.{rules}
-use Prim.Native.Nat.{◌-◌}
 use Rattle.rules.proofs.Rests.{reached_none}
 use Rattle.task.proofs.Rows.{action_counted, place_falls, counted_within, all_counted}
 use Rattle.task.proofs.filling.count_actions.Goals as goal

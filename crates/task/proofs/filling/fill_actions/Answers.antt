@@ -1,6 +1,5 @@
 -- Assumes nothing.
 use borrow.Author.Rules.{rules}
-use Prim.Native.Nat.{◌-◌}
 use Rattle.task.proofs.Rows.{actions_none, actions_more, actions_all}
 use Rattle.task.proofs.filling.fill_actions.Goals as goal
 

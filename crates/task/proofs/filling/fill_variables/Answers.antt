@@ -1,6 +1,5 @@
 -- Assumes nothing.
 use borrow.Author.Rules.{rules}
-use Prim.Native.Nat.{◌-◌}
 use Rattle.task.proofs.Rows.{variables_none, pairs_sum_fits, variables_more, variables_all}
 use Rattle.task.proofs.filling.fill_variables.Goals as goal
 

@@ -1,5 +1,4 @@
 -- Assumes nothing.
-use Prim.Native.Nat.{◌-◌}
 use Rattle.text.proofs.Running.{run_start, run_more, stopped_out, stopped_lines, stopped_bytes, end_out, end_lines, end_bytes}
 use borrow.Author.Rules.{rules}
 use Rattle.text.proofs.runs.put_run.Goals as goal

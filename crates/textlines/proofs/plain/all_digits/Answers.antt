@@ -1,5 +1,4 @@
 -- Assumes nothing.
-use Prim.Native.Nat.{◌-◌}
 use borrow.Author.Rules.{rules}
 use Rattle.textlines.proofs.PlainLaws.{digits_not, digits_on, digits_all}
 use Rattle.textlines.proofs.plain.all_digits.Goals as goal

@@ -1,6 +1,5 @@
 -- Assumes nothing.
 use borrow.Author.Rules.{rules}
-use Prim.Native.Nat.{◌-◌}
 use Rattle.translator.proofs.ByteLaws.{rest_none, rest_held, up_to-lf, up_to-end, up_to-passed}
 use Rattle.translator.proofs.holding.hold.Goals as goal
 

@@ -1,6 +1,5 @@
 -- Assumes nothing.
 use borrow.Author.Rules.{rules}
-use Prim.Native.Nat.{◌-◌}
 use Rattle.translator.proofs.ByteLaws.{passed_none, block_within, block_less, passed_block, passed_behind}
 use Rattle.translator.proofs.holding.line_end.Goals as goal
 

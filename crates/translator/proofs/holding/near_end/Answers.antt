@@ -1,6 +1,5 @@
 -- Assumes nothing.
 use borrow.Author.Rules.{rules}
-use Prim.Native.Nat.{◌-◌}
 use Rattle.translator.proofs.ByteLaws.{passed_none, passed_byte, passed_to_lf, passed_to_end}
 use Rattle.translator.proofs.holding.near_end.Goals as goal
 

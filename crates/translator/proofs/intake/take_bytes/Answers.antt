@@ -1,6 +1,5 @@
 -- Assumes nothing.
 use borrow.Author.Rules.{rules}
-use Prim.Native.Nat.{◌-◌}
 use Rattle.translator.proofs.RoomLaws.{room_ready}
 use Rattle.translator.proofs.ByteLaws.{further_on, call_short, call_done}
 use Rattle.translator.proofs.intake.take_bytes.Goals as goal
