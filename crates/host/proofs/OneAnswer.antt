@@ -63,26 +63,26 @@ pub one_lines : (κs : _) (a : _) (r s : ℕ) (x y : _) → lines.Post κs a r x
     × (x.1.1.1.0.now ≡ y.1.1.1.0.now)
 one_lines κs a r s x y p q = (p.0 ∙ sym q.0, p.1.0 ∙ sym q.1.0, p.1.1.0 ∙ sym q.1.1.0, p.1.1.1 ∙ sym q.1.1.1)
 
-pub one_start-reading : (κs : _) (a : _) (r s : ℕ) (x y : _) → start-reading.Post κs a r x → start-reading.Post κs a s y
+pub one_start_reading : (κs : _) (a : _) (r s : ℕ) (x y : _) → start-reading.Post κs a r x → start-reading.Post κs a s y
     → (left r x.1.1.1.1.1.1.0.now x.1.1.1.1.1.0.now x.1.1.0.now x.1.1.1.0.now
     ≡ left s y.1.1.1.1.1.1.0.now y.1.1.1.1.1.0.now y.1.1.0.now y.1.1.1.0.now)
     × (x.1.1.1.1.0.now ≡ y.1.1.1.1.0.now)
-one_start-reading κs a r s x y p q = (p.0 ∙ sym q.0, p.1 ∙ sym q.1)
+one_start_reading κs a r s x y p q = (p.0 ∙ sym q.0, p.1 ∙ sym q.1)
 
-pub one_read-line : (κs : _) (a : _) (r s : ℕ) (x y : _) → read-line.Post κs a r x → read-line.Post κs a s y
+pub one_read_line : (κs : _) (a : _) (r s : ℕ) (x y : _) → read-line.Post κs a r x → read-line.Post κs a s y
     → left r x.1.1.1.1.1.0.now x.1.0.now x.1.1.0.now x.1.1.1.0.now
     ≡ left s y.1.1.1.1.1.0.now y.1.0.now y.1.1.0.now y.1.1.1.0.now
-one_read-line κs a r s x y p q = p ∙ sym q
+one_read_line κs a r s x y p q = p ∙ sym q
 
-pub one_read-bytes : (κs : _) (a : _) (r s : ℕ) (x y : _) → read-bytes.Post κs a r x → read-bytes.Post κs a s y
+pub one_read_bytes : (κs : _) (a : _) (r s : ℕ) (x y : _) → read-bytes.Post κs a r x → read-bytes.Post κs a s y
     → fed_left r x.1.1.1.1.1.1.1.0.now x.1.0.now x.1.1.0.now x.1.1.1.0.now x.1.1.1.1.0.now x.1.1.1.1.1.0.now
     ≡ fed_left s y.1.1.1.1.1.1.1.0.now y.1.0.now y.1.1.0.now y.1.1.1.0.now y.1.1.1.1.0.now y.1.1.1.1.1.0.now
-one_read-bytes κs a r s x y p q = p ∙ sym q
+one_read_bytes κs a r s x y p q = p ∙ sym q
 
-pub one_read-rest : (κs : _) (a : _) (r s : ℕ) (x y : _) → read-rest.Post κs a r x → read-rest.Post κs a s y
+pub one_read_rest : (κs : _) (a : _) (r s : ℕ) (x y : _) → read-rest.Post κs a r x → read-rest.Post κs a s y
     → left r x.1.1.1.1.1.1.0.now x.1.0.now x.1.1.1.0.now x.1.1.1.1.0.now
     ≡ left s y.1.1.1.1.1.1.0.now y.1.0.now y.1.1.1.0.now y.1.1.1.1.0.now
-one_read-rest κs a r s x y p q = p ∙ sym q
+one_read_rest κs a r s x y p q = p ∙ sym q
 
 pub one_end_reading : (κs : _) (a : _) (r s : ℕ) (x y : _) → end-reading.Post κs a r x → end-reading.Post κs a s y
     → (answer r x.1.1.1.1.1.1.0.now ≡ answer s y.1.1.1.1.1.1.0.now)

@@ -22,9 +22,9 @@ use Rattle.model.proofs.parts.finish.Reads as finish
 use Rattle.model.proofs.answer.Kinds as answer-kinds
 use Rattle.model.proofs.answer.Reads as answer
 
-pub words_needed-decided : (κs : Lfts 1) (a : Dens κs words-kinds.ps) (r s : ℕ) (x y : AtExit (ended_of 1 words-kinds.ps words-kinds.r) κs)
+pub words_needed_decided : (κs : Lfts 1) (a : Dens κs words-kinds.ps) (r s : ℕ) (x y : AtExit (ended_of 1 words-kinds.ps words-kinds.r) κs)
     → words.Post κs a r x → words.Post κs a s y → r ≡ s
-words_needed-decided κs a r s x y p q = p.0 ∙ sym q.0
+words_needed_decided κs a r s x y p q = p.0 ∙ sym q.0
 
 pub begin_decided : (κs : Lfts 4) (a : Dens κs begin-kinds.ps) (r s : Feed) (x y : AtExit (ended_of 4 begin-kinds.ps begin-kinds.r) κs)
     → begin.Post κs a r x → begin.Post κs a s y

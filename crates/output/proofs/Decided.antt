@@ -25,9 +25,9 @@ start_decided κs a r s x y p q =
     let e : leaves r x.1.0.now x.1.1.0.now ≡ leaves s y.1.0.now y.1.1.0.now = p ∙ sym q in
     (ap (λ l. l.answer) e, ap (λ l. l.rows.given) e, ap (λ l. l.rows.is_true) e)
 
-pub read_line-decided : (κs : Lfts 3) (a : Dens κs read-line-kinds.ps) (r s : LineAnswer) (x y : AtExit (ended_of 3 read-line-kinds.ps read-line-kinds.r) κs)
+pub read_line_decided : (κs : Lfts 3) (a : Dens κs read-line-kinds.ps) (r s : LineAnswer) (x y : AtExit (ended_of 3 read-line-kinds.ps read-line-kinds.r) κs)
     → read-line.Post κs a r x → read-line.Post κs a s y → (r ≡ s) × (x.1.0.now ≡ y.1.0.now) × (x.1.1.0.now ≡ y.1.1.0.now)
-read_line-decided κs a r s x y p q =
+read_line_decided κs a r s x y p q =
     let e : leaves r x.1.0.now x.1.1.0.now ≡ leaves s y.1.0.now y.1.1.0.now = p ∙ sym q in
     (ap (λ l. l.answer) e, ap (λ l. l.rows.given) e, ap (λ l. l.rows.is_true) e)
 
@@ -35,10 +35,10 @@ pub begin_decided : (κs : Lfts 0) (a : Dens κs begin-kinds.ps) (r s : Feed) (x
     → begin.Post κs a r x → begin.Post κs a s y → r ≡ s
 begin_decided κs a r s x y p q = ap₂ (λ answer held. record { answer = answer; held = held }) (p.0 ∙ sym q.0) (p.1 ∙ sym q.1)
 
-pub take-bytes_decided : (κs : Lfts 4) (a : Dens κs take-bytes-kinds.ps) (r s : Feed) (x y : AtExit (ended_of 4 take-bytes-kinds.ps take-bytes-kinds.r) κs)
+pub take_bytes_decided : (κs : Lfts 4) (a : Dens κs take-bytes-kinds.ps) (r s : Feed) (x y : AtExit (ended_of 4 take-bytes-kinds.ps take-bytes-kinds.r) κs)
     → take-bytes.Post κs a r x → take-bytes.Post κs a s y
     → (r ≡ s) × (x.1.0.now ≡ y.1.0.now) × (x.1.1.0.now ≡ y.1.1.0.now) × (x.1.1.1.0.now ≡ y.1.1.1.0.now)
-take-bytes_decided κs a r s x y p q =
+take_bytes_decided κs a r s x y p q =
     let e : feed_leaves r x.1.0.now x.1.1.0.now x.1.1.1.0.now ≡ feed_leaves s y.1.0.now y.1.1.0.now y.1.1.1.0.now = p ∙ sym q in
     (ap (λ f. record { answer = f.progress.answer; held = f.held }) e, ap (λ f. f.progress.rows.given) e, ap (λ f. f.progress.rows.is_true) e, ap (λ f. f.line) e)
 

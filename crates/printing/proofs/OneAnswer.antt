@@ -10,10 +10,10 @@ use Rattle.printing.proofs.schedule_text.Reads as schedule
 use Rattle.printing.proofs.refusal_line.Kinds as refusal-kinds
 use Rattle.printing.proofs.refusal_line.Reads as refusal
 
-pub schedule_text-decided : (κs : Lfts 2) (a : Dens κs schedule-kinds.ps) (r s : ℕ) (x y : AtExit (ended_of 2 schedule-kinds.ps schedule-kinds.r) κs)
+pub schedule_text_decided : (κs : Lfts 2) (a : Dens κs schedule-kinds.ps) (r s : ℕ) (x y : AtExit (ended_of 2 schedule-kinds.ps schedule-kinds.r) κs)
     → schedule.Post κs a r x → schedule.Post κs a s y → (r ≡ s) × (x.0.now ≡ y.0.now)
-schedule_text-decided κs a r s x y p q = (p.1 ∙ sym q.1, p.0 ∙ sym q.0)
+schedule_text_decided κs a r s x y p q = (p.1 ∙ sym q.1, p.0 ∙ sym q.0)
 
-pub refusal_line-decided : (κs : Lfts 1) (a : Dens κs refusal-kinds.ps) (r s : ℕ) (x y : AtExit (ended_of 1 refusal-kinds.ps refusal-kinds.r) κs)
+pub refusal_line_decided : (κs : Lfts 1) (a : Dens κs refusal-kinds.ps) (r s : ℕ) (x y : AtExit (ended_of 1 refusal-kinds.ps refusal-kinds.r) κs)
     → refusal.Post κs a r x → refusal.Post κs a s y → (r ≡ s) × (x.0.now ≡ y.0.now)
-refusal_line-decided κs a r s x y p q = (p.1 ∙ sym q.1, p.0 ∙ sym q.0)
+refusal_line_decided κs a r s x y p q = (p.1 ∙ sym q.1, p.0 ∙ sym q.0)

@@ -1,5 +1,4 @@
--- Any two answers that a promise allows are equal. Of a part that is handed back, its bytes and its pointer are settled; its ghost name, by
--- which only the logic knows it, is not.
+-- Any two answers that a promise allows are equal: of a part that is handed back its bytes and its pointer, which is all that it is.
 -- Assumes nothing.
 use mathlib.Core.Path.{◌≡◌, sym, ◌∙◌}
 use mathlib.Core.List.{List}
@@ -16,8 +15,9 @@ use Rattle.reader.proofs.contents.body_asked.Reads as body-asked
 use Rattle.reader.proofs.file.bodies_verdict.Reads as bodies-verdict
 use Rattle.reader.proofs.file.file_verdict.Reads as file-verdict
 
-same_stretch : (whole r s : Bor (List ℕ)) (at : ℕ) (bytes : List ℕ) → Stretch whole r at bytes → Stretch whole s at bytes → (r.now ≡ s.now) × (r.ref_ptr ≡ s.ref_ptr)
-same_stretch whole r s at bytes p q = (p.holds ∙ sym q.holds, λ i. ((p.memory ∙ sym q.memory) i, (p.from ∙ sym q.from) i))
+same_stretch : (whole r s : Bor (List ℕ)) (at : ℕ) (bytes : List ℕ) → Stretch whole r at bytes → Stretch whole s at bytes → r ≡ s
+same_stretch whole r s at bytes p q =
+    λ i. record { ref_ptr = ((p.memory ∙ sym q.memory) i, (p.from ∙ sym q.from) i); now = (p.holds ∙ sym q.holds) i }
 
 pub one_contents_verdict : (κs : _) (a : _) (r s : Verdict) (x : _) → contents-verdict.Post κs a r x → contents-verdict.Post κs a s x → r ≡ s
 one_contents_verdict κs a r s x p q = p ∙ sym q
@@ -28,10 +28,10 @@ one_file_verdict κs a r s x p q = p ∙ sym q
 pub one_bodies_verdict : (κs : _) (a : _) (r s : Verdict) (x : _) → bodies-verdict.Post κs a r x → bodies-verdict.Post κs a s x → r ≡ s
 one_bodies_verdict κs a r s x p q = p ∙ sym q
 
-pub one_row_body : (κs : _) (a : _) (r s : Bor (List ℕ)) (x : _) → row-body.Post κs a r x → row-body.Post κs a s x → (r.now ≡ s.now) × (r.ref_ptr ≡ s.ref_ptr)
+pub one_row_body : (κs : _) (a : _) (r s : Bor (List ℕ)) (x : _) → row-body.Post κs a r x → row-body.Post κs a s x → r ≡ s
 one_row_body κs a r s x p q = same_stretch _ r s _ _ p q
 
-pub one_body_asked : (κs : _) (a : _) (r s : Bor (List ℕ)) (x : _) → body-asked.Post κs a r x → body-asked.Post κs a s x → (r.now ≡ s.now) × (r.ref_ptr ≡ s.ref_ptr)
+pub one_body_asked : (κs : _) (a : _) (r s : Bor (List ℕ)) (x : _) → body-asked.Post κs a r x → body-asked.Post κs a s x → r ≡ s
 one_body_asked κs a r s x p q = same_stretch _ r s _ _ p q
 
 pub one_byte_at : (κs : _) (a : _) (r s : ℕ) (x : _) → byte_at.Post κs a r x → byte_at.Post κs a s x → r ≡ s

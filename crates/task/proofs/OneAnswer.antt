@@ -67,8 +67,8 @@ one_actions κs a r s x p q = p ∙ sym q
 pub one_step_width : (κs : _) (a : _) (r s : ℕ) (x : _) → step-width.Post κs a r x → step-width.Post κs a s x → r ≡ s
 one_step_width κs a r s x p q = p ∙ sym q
 
-pub one_action-place : (κs : _) (a : _) (r s : ℕ) (x : _) → action-place.Post κs a r x → action-place.Post κs a s x → r ≡ s
-one_action-place κs a r s x p q = p ∙ sym q
+pub one_action_place : (κs : _) (a : _) (r s : ℕ) (x : _) → action-place.Post κs a r x → action-place.Post κs a s x → r ≡ s
+one_action_place κs a r s x p q = p ∙ sym q
 
 pub one_preconditions_before : (κs : _) (a : _) (r s : ℕ) (x : _) → preconditions-before.Post κs a r x → preconditions-before.Post κs a s x → r ≡ s
 one_preconditions_before κs a r s x p q = p ∙ sym q
@@ -91,29 +91,29 @@ one_number_of κs a r s x p q = p ∙ sym q
 pub one_variables : (κs : _) (a : _) (r s : ℕ) (x : _) → variables.Post κs a r x → variables.Post κs a s x → r ≡ s
 one_variables κs a r s x p q = p ∙ sym q
 
-pub one_size_lem : (κs : _) (a : _) (r s : ℕ) (x : _) → size.Post κs a r x → size.Post κs a s x → r ≡ s
-one_size_lem κs a r s x p q = p ∙ sym q
+pub one_size : (κs : _) (a : _) (r s : ℕ) (x : _) → size.Post κs a r x → size.Post κs a s x → r ≡ s
+one_size κs a r s x p q = p ∙ sym q
 
-pub one_start-value : (κs : _) (a : _) (r s : ℕ) (x : _) → start-value.Post κs a r x → start-value.Post κs a s x → r ≡ s
-one_start-value κs a r s x p q = p ∙ sym q
+pub one_start_value : (κs : _) (a : _) (r s : ℕ) (x : _) → start-value.Post κs a r x → start-value.Post κs a s x → r ≡ s
+one_start_value κs a r s x p q = p ∙ sym q
 
 pub one_goals : (κs : _) (a : _) (r s : ℕ) (x : _) → goals.Post κs a r x → goals.Post κs a s x → r ≡ s
 one_goals κs a r s x p q = p ∙ sym q
 
-pub one_precondition-count : (κs : _) (a : _) (r s : ℕ) (x : _) → precondition_count.Post κs a r x → precondition_count.Post κs a s x → r ≡ s
-one_precondition-count κs a r s x p q = p ∙ sym q
+pub one_precondition_count : (κs : _) (a : _) (r s : ℕ) (x : _) → precondition_count.Post κs a r x → precondition_count.Post κs a s x → r ≡ s
+one_precondition_count κs a r s x p q = p ∙ sym q
 
-pub one_effect-count : (κs : _) (a : _) (r s : ℕ) (x : _) → effect_count.Post κs a r x → effect_count.Post κs a s x → r ≡ s
-one_effect-count κs a r s x p q = p ∙ sym q
+pub one_effect_count : (κs : _) (a : _) (r s : ℕ) (x : _) → effect_count.Post κs a r x → effect_count.Post κs a s x → r ≡ s
+one_effect_count κs a r s x p q = p ∙ sym q
 
-pub one_goal-pair : (κs : _) (a : _) (r s : ValuePlace) (x : _) → goal-pair.Post κs a r x → goal-pair.Post κs a s x → r ≡ s
-one_goal-pair κs a r s x p q = same_place r s _ _ p q
+pub one_goal_pair : (κs : _) (a : _) (r s : ValuePlace) (x : _) → goal-pair.Post κs a r x → goal-pair.Post κs a s x → r ≡ s
+one_goal_pair κs a r s x p q = same_place r s _ _ p q
 
-pub one_precondition_lem : (κs : _) (a : _) (r s : ValuePlace) (x : _) → precondition.Post κs a r x → precondition.Post κs a s x → r ≡ s
-one_precondition_lem κs a r s x p q = same_place r s _ _ p q
+pub one_precondition : (κs : _) (a : _) (r s : ValuePlace) (x : _) → precondition.Post κs a r x → precondition.Post κs a s x → r ≡ s
+one_precondition κs a r s x p q = same_place r s _ _ p q
 
-pub one_effect_lem : (κs : _) (a : _) (r s : ValuePlace) (x : _) → effect.Post κs a r x → effect.Post κs a s x → r ≡ s
-one_effect_lem κs a r s x p q = same_place r s _ _ p q
+pub one_effect : (κs : _) (a : _) (r s : ValuePlace) (x : _) → effect.Post κs a r x → effect.Post κs a s x → r ≡ s
+one_effect κs a r s x p q = same_place r s _ _ p q
 
 -- ---- the numbering
 
@@ -126,8 +126,8 @@ one_nth_action κs a r s x p q = λ i. record { 0 = (p ∙ sym q) i }
 pub one_value_number : (κs : _) (a : _) (r s : FormulaNumber) (x : _) → value_number_lem.Post κs a r x → value_number_lem.Post κs a s x → r ≡ s
 one_value_number κs a r s x p q = same_number r s _ p q
 
-pub one_action-number : (κs : _) (a : _) (r s : FormulaNumber) (x : _) → action_number_lem.Post κs a r x → action_number_lem.Post κs a s x → r ≡ s
-one_action-number κs a r s x p q = same_number r s _ p q
+pub one_action_number : (κs : _) (a : _) (r s : FormulaNumber) (x : _) → action_number_lem.Post κs a r x → action_number_lem.Post κs a s x → r ≡ s
+one_action_number κs a r s x p q = same_number r s _ p q
 
 pub one_checked_number : (κs : _) (a : _) (r s : NumberRead) (x : _) → checked-number.Post κs a r x → checked-number.Post κs a s x → r ≡ s
 one_checked_number κs a r s x p q = p ∙ sym q

@@ -17,8 +17,8 @@ use Rattle.walk.proofs.after.Reads as after
 same_state : (r s : State) (l : List ℕ) → r.values ≡ l → s.values ≡ l → r ≡ s
 same_state r s l p q = λ i. record { values = (p ∙ sym q) i }
 
-pub one_start_lem : (κs : _) (a : _) (r s : State) (x : _) → start.Post κs a r x → start.Post κs a s x → r ≡ s
-one_start_lem κs a r s x p q = same_state r s _ p q
+pub one_start : (κs : _) (a : _) (r s : State) (x : _) → start.Post κs a r x → start.Post κs a s x → r ≡ s
+one_start κs a r s x p q = same_state r s _ p q
 
 pub one_applies : (κs : _) (a : _) (r s : Bool) (x : _) → applies.Post κs a r x → applies.Post κs a s x → r ≡ s
 one_applies κs a r s x p q = p ∙ sym q

@@ -1,4 +1,4 @@
--- `rows_there` meets its contract.
+-- `rows_fit` meets its contract.
 -- Assumes nothing.
 use borrow.Author.Rules.{rules}
 use Rattle.output.proofs.LineLaws.{fit_not, fit_by}
