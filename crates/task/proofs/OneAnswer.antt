@@ -16,10 +16,10 @@ use Rattle.task.proofs.index.step_width.Reads as step-width
 use Rattle.task.proofs.index.action_place.Reads as action-place
 use Rattle.task.proofs.index.preconditions_before.Reads as preconditions-before
 use Rattle.task.proofs.index.effects_before.Reads as effects-before
-use Rattle.task.proofs.numbering.variable_of.Reads as variable_of_lem
-use Rattle.task.proofs.numbering.value_of.Reads as value_of_lem
+use Rattle.task.proofs.numbering.variable_of.Reads as variable_of
+use Rattle.task.proofs.numbering.value_of.Reads as value_of
 use Rattle.task.proofs.numbering.place_of_action.Reads as place-of-action
-use Rattle.task.proofs.numbering.number_of.Reads as number_of_lem
+use Rattle.task.proofs.numbering.number_of.Reads as number_of
 use Rattle.task.proofs.asked.variables.Reads as variables
 use Rattle.task.proofs.asked.size.Reads as size
 use Rattle.task.proofs.asked.start_value.Reads as start-value
@@ -31,8 +31,8 @@ use Rattle.task.proofs.numbering.value_place.Reads as value_place
 use Rattle.task.proofs.asked.goal_pair.Reads as goal-pair
 use Rattle.task.proofs.asked.precondition.Reads as precondition
 use Rattle.task.proofs.asked.effect.Reads as effect
-use Rattle.task.proofs.numbering.value_number.Reads as value_number_lem
-use Rattle.task.proofs.numbering.action_number.Reads as action_number_lem
+use Rattle.task.proofs.numbering.value_number.Reads as value_number
+use Rattle.task.proofs.numbering.action_number.Reads as action_number
 use Rattle.task.proofs.filling.fill_index.Reads as fill-index
 use Rattle.task.proofs.numbering.nth_action.Reads as nth-action
 use Rattle.task.proofs.problem.problem_verdict.Reads as problem-verdict
@@ -76,16 +76,16 @@ one_preconditions_before κs a r s x p q = p ∙ sym q
 pub one_effects_before : (κs : _) (a : _) (r s : ℕ) (x : _) → effects-before.Post κs a r x → effects-before.Post κs a s x → r ≡ s
 one_effects_before κs a r s x p q = p ∙ sym q
 
-pub one_variable_of : (κs : _) (a : _) (r s : ℕ) (x : _) → variable_of_lem.Post κs a r x → variable_of_lem.Post κs a s x → r ≡ s
+pub one_variable_of : (κs : _) (a : _) (r s : ℕ) (x : _) → variable_of.Post κs a r x → variable_of.Post κs a s x → r ≡ s
 one_variable_of κs a r s x p q = p ∙ sym q
 
-pub one_value_of : (κs : _) (a : _) (r s : ℕ) (x : _) → value_of_lem.Post κs a r x → value_of_lem.Post κs a s x → r ≡ s
+pub one_value_of : (κs : _) (a : _) (r s : ℕ) (x : _) → value_of.Post κs a r x → value_of.Post κs a s x → r ≡ s
 one_value_of κs a r s x p q = p ∙ sym q
 
 pub one_place_of_action : (κs : _) (a : _) (r s : ℕ) (x : _) → place-of-action.Post κs a r x → place-of-action.Post κs a s x → r ≡ s
 one_place_of_action κs a r s x p q = p ∙ sym q
 
-pub one_number_of : (κs : _) (a : _) (r s : ℕ) (x : _) → number_of_lem.Post κs a r x → number_of_lem.Post κs a s x → r ≡ s
+pub one_number_of : (κs : _) (a : _) (r s : ℕ) (x : _) → number_of.Post κs a r x → number_of.Post κs a s x → r ≡ s
 one_number_of κs a r s x p q = p ∙ sym q
 
 pub one_variables : (κs : _) (a : _) (r s : ℕ) (x : _) → variables.Post κs a r x → variables.Post κs a s x → r ≡ s
@@ -123,10 +123,10 @@ one_value_place κs a r s x p q = same_place r s _ _ p q
 pub one_nth_action : (κs : _) (a : _) (r s : ActionNumber) (x : _) → nth-action.Post κs a r x → nth-action.Post κs a s x → r ≡ s
 one_nth_action κs a r s x p q = λ i. record { 0 = (p ∙ sym q) i }
 
-pub one_value_number : (κs : _) (a : _) (r s : FormulaNumber) (x : _) → value_number_lem.Post κs a r x → value_number_lem.Post κs a s x → r ≡ s
+pub one_value_number : (κs : _) (a : _) (r s : FormulaNumber) (x : _) → value_number.Post κs a r x → value_number.Post κs a s x → r ≡ s
 one_value_number κs a r s x p q = same_number r s _ p q
 
-pub one_action_number : (κs : _) (a : _) (r s : FormulaNumber) (x : _) → action_number_lem.Post κs a r x → action_number_lem.Post κs a s x → r ≡ s
+pub one_action_number : (κs : _) (a : _) (r s : FormulaNumber) (x : _) → action_number.Post κs a r x → action_number.Post κs a s x → r ≡ s
 one_action_number κs a r s x p q = same_number r s _ p q
 
 pub one_checked_number : (κs : _) (a : _) (r s : NumberRead) (x : _) → checked-number.Post κs a r x → checked-number.Post κs a s x → r ≡ s
