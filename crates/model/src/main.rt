@@ -63,8 +63,8 @@ fn answer(
     line: &mut [u8],
     out: &mut [u8],
 ) -> usize
-    requires given_len { (length given.old ≡ words_needed first.now) × (length truth.old ≡ words_needed first.now) }
-    requires line_room_in_bounds { (line_room ≤ length line.old) × (text_room ≤ length out.old) }
+    requires rows { (length given.old ≡ words_needed first.now) × (length truth.old ≡ words_needed first.now) }
+    requires rooms { (line_room ≤ length line.old) × (text_room ≤ length out.old) }
     ensures { Answered first.now out.old out.new result }
 {
     let begun = parts::begin(first, given, truth, line);

@@ -57,7 +57,7 @@ fn file_in(first: &[u8]) -> &[u8]
 
 // What the first part has of the solver lines.
 fn lines_in(first: &[u8]) -> &[u8]
-    ensures result_value { result.now ≡ lines_in first.now }
+    ensures lines { result.now ≡ lines_in first.now }
     ensures announced { head_bytes + word16 first.now 1 ≤ first_room }
 {
     let end = file_end(first);
@@ -79,7 +79,7 @@ pub fn words_needed(first: &[u8]) -> usize
 
 // The reading starts, and the lines of the first part are fed.
 pub fn begin(first: &[u8], given: &mut [u64], truth: &mut [u64], line: &mut [u8]) -> Feed
-    ensures line_after { feed_leaves result given.new truth.new line.new ≡ begun first.now (lent given.old truth.old) line.old }
+    ensures fed { feed_leaves result given.new truth.new line.new ≡ begun first.now (lent given.old truth.old) line.old }
     ensures announced { head_bytes + word16 first.now 1 ≤ first_room }
 {
     let answer = opening::start(file_in(first), number_at(first, 0), given, truth);

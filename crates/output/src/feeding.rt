@@ -68,8 +68,8 @@ fn feed_part(
     ends: bool,
 ) -> Feed
     requires { (line_room ≤ length line.old) × (state.held ≤ line_room) × WithoutLF part.now }
-    ensures line_after { feed_leaves result given.new truth.new line.new ≡ feed_part (feed_leaves state given.old truth.old line.old) part.now ends }
-    ensures held_le_line_room { result.held ≤ line_room }
+    ensures fed { feed_leaves result given.new truth.new line.new ≡ feed_part (feed_leaves state given.old truth.old line.old) part.now ends }
+    ensures held_fits { result.held ≤ line_room }
 {
     let answer = state.answer;
     let LineAnswer::Next(reading) = answer else {

@@ -57,8 +57,8 @@ fn take_piece(highest: usize, closed: bool, given: &mut [u64], piece: &[u8], at:
 // The numbers of a line are tried: those before a refused one stay marked.
 fn try_numbers(highest: usize, given: &mut [u64], line: &[u8]) -> Tried
     requires { length line.now ≤ max_line }
-    ensures given_after { trial_leaves result given.new ≡ trial highest given.old first_gap false (number_pieces line.now) }
-    ensures result_in_bounds { stop_of result ≤ length line.now }
+    ensures tried { trial_leaves result given.new ≡ trial highest given.old first_gap false (number_pieces line.now) }
+    ensures within { stop_of result ≤ length line.now }
 {
     let mut closed = false;
     let mut gap = 1;

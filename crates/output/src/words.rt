@@ -44,8 +44,8 @@ fn sign_bytes(word: &[u8]) -> usize
 
 // The digits that the bytes begin with, six at most.
 fn digit_run(bytes: &[u8]) -> Run
-    ensures bytes_value { (result.bytes ≡ digit_run bytes.now) × (result.bytes ≤ max_digits) }
-    ensures value_value { result.value ≡ value_from 0 (take result.bytes bytes.now) }
+    ensures digits { (result.bytes ≡ digit_run bytes.now) × (result.bytes ≤ max_digits) }
+    ensures value { result.value ≡ value_from 0 (take result.bytes bytes.now) }
 {
     let mut value = 0;
     let mut i = 0;

@@ -49,9 +49,6 @@ pub start_written : (l m : List ℕ) (e : ℕ) → Wrote l 0 (take start_length 
 unfolding ascii
 start_written l m e w = w
 
-pub start_behind : (l m : List ℕ) (e : ℕ) → Wrote l 0 (take start_length (112 ∷ 32 ∷ 99 ∷ 110 ∷ 102 ∷ 32 ∷ [])) m e → e ≡ start_length
-start_behind l m e w = w.behind
-
 pub variables_few : (v : ℕ) → v ≤ max_n → v ≤ max_c
 variables_few v h = omega arith
 

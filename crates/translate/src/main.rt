@@ -153,7 +153,7 @@ fn answer(
     room: &mut [u8],
 ) -> usize
     requires lent { Lent (memory sizes.old start.old goal.old actions.old) × (head_room ≤ length line.old) }
-    requires first_len_bound { (length first.now ≤ part_room) × (max_file ≡ length room.old) }
+    requires rooms { (length first.now ≤ part_room) × (max_file ≡ length room.old) }
     ensures { Answered first.now room.new result }
 {
     if first.len() < PART_ROOM {

@@ -78,8 +78,8 @@ fn among_facts(state: Intake, facts: Facts) -> Intake
 
 // The facts of a mutex group that come next are read.
 pub(crate) fn group_facts(state: Intake, line: &mut [u8], bytes: &[u8], at: usize) -> Further
-    requires verdict_value { (state.verdict ≡ Accepted) × (state.position.line ≡ MutexFact) }
-    requires held_le_head_room { (state.held ≤ head_room) × (head_room ≤ length line.old) × (at ≤ length bytes.now) }
+    requires in_facts { (state.verdict ≡ Accepted) × (state.position.line ≡ MutexFact) }
+    requires rooms { (state.held ≤ head_room) × (head_room ≤ length line.old) × (at ≤ length bytes.now) }
     ensures { FactsTaken state line.old bytes.now at result.reading result.at line.new }
 {
     let position = state.position;

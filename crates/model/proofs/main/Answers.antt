@@ -11,11 +11,8 @@ slice_bounds-answer-end-2 c = part_of _ _ (search rules)
 pub slice_bounds-answer-end-3 : goal.slice_bounds-answer-end-3
 slice_bounds-answer-end-3 c = part_of _ _ (search rules)
 
-pub answer-end-requires-clause-given_len : goal.answer-end-requires-clause-given_len
-answer-end-requires-clause-given_len c = (search (rules, part_is), search (rules, part_is))
-
-pub answer-end-requires-clause-line_room_in_bounds : goal.answer-end-requires-clause-line_room_in_bounds
-answer-end-requires-clause-line_room_in_bounds c = (search rules, search rules)
+pub answer-end-requires-clause-rows : goal.answer-end-requires-clause-rows
+answer-end-requires-clause-rows c = (search (rules, part_is), search (rules, part_is))
 
 pub slice_bounds-out-end : goal.slice_bounds-out-end
 slice_bounds-out-end c = search (rules, answer_within)

@@ -5,10 +5,7 @@ use Rattle.printing.proofs.Texts.{word_length, word_put}
 use Rattle.printing.proofs.put_refused.Goals as goal
 
 pub put_text-requires : goal.put_text-requires
-put_text-requires c = search (rules, word_length, word_put)
-
-pub shape_of-out : goal.shape_of-out
-shape_of-out c = search (rules, word_length, word_put)
+put_text-requires c = search (rules, word_length)
 
 pub returns : goal.returns
 returns c = search (rules, word_length, word_put)
