@@ -1,22 +1,25 @@
 -- Laws of words: a text is cut at its first separator, and the value of digits.
 -- Assumes nothing.
 use mathlib.Core.Path.{◌≡◌, refl, sym, ap, ◌∙◌}
-use mathlib.Core.Logic.{⊎_elim}
-use mathlib.Core.Bool.{false}
+use mathlib.Core.Logic.{⊎_elim, ◌≢◌}
 use mathlib.Core.List.{List, [], ◌∷◌}
 use Prim.Native.Nat.{ℕ, suc, ◌+◌, ◌-◌, ◌*◌, ◌^◌, ◌≤◌, ◌<◌}
 use native.Mathlib.Omega.{arith}
 use native.Mathlib.Numerals.{add-one}
 use native.Mathlib.Nat.{le_of_suc-le-suc, pow-suc, pow-le-pow_right}
-use borrow.Author.Tests.{eq-eqb, ne_eqb, eqb-true, le-leb, lt-leb}
-use lib.Dec.{eqb, leb, lit≤}
+use borrow.Author.Tests.{eq-eqb, ne_eqb, eqb-true}
+use lib.Dec.{eqb, lit≤}
 use mir.Syntax.{w64}
 use mir.Val.{Fits}
 use lib.ListN.{length, take, drop, length-drop, drop_of_length-le, get_or-eq_default}
 use lib.Seq.{drop-cons, take_all, length-take-le, get_or-drop}
+use Rattle.std.specs.Prelude.{Option}
+use Rattle.std.specs.Option.{MatchOption, unwrap_or}
+use Rattle.std.specs.List.{AllWithin, HoldsAt}
+use Rattle.std.proofs.lemmas.Iterator.{index_from_first}
 use Rattle.rules.specs.File.{byte}
 use Rattle.rules.specs.Text.{digit0}
-use Rattle.rules.specs.Lines.{onto, pieces, is_digit, value_from}
+use Rattle.rules.specs.Lines.{onto, pieces, value_from}
 use Rattle.rules.proofs.Bools.{either}
 use Rattle.lent_bytes.specs.Words.{length_until, pieces_behind, PieceEnds, most_digits}
 
@@ -43,30 +46,28 @@ pieces_cut separator [] = refl
 pieces_cut separator (b ∷ s) =
     ⊎_elim (λ t. rw t refl) (λ t. rw t (ap (onto b) (pieces_cut separator s))) (either (eqb b separator))
 
--- at the end, at a separator, and before another byte
-until_end : (separator : ℕ) (s : List ℕ) (i : ℕ) → length s ≤ i → length_until separator (drop i s) ≡ 0
+-- the first separator ends a piece, and so does the end of the text
+until_none : (separator : ℕ) → length_until separator [] ≡ 0
 unfolding length_until
-until_end separator s i h = rw (drop_of_length-le s h)
+until_none separator = refl
 
-until_here : (separator : ℕ) (s : List ℕ) (i : ℕ) → i < length s → byte s i ≡ separator → length_until separator (drop i s) ≡ 0
+until_here : (separator b : ℕ) (s : List ℕ) → b ≡ separator → length_until separator (b ∷ s) ≡ 0
 unfolding length_until
-until_here separator s i h e = rw (drop-cons s i 0 h, eq-eqb _ _ e)
+until_here separator b s e = rw (eq-eqb _ _ e)
 
-until_on : (separator : ℕ) (s : List ℕ) (i : ℕ) → i < length s → (byte s i ≡ separator → ⊥)
-    → length_until separator (drop i s) ≡ suc (length_until separator (drop (i + 1) s))
+until_on : (separator b : ℕ) (s : List ℕ) → b ≢ separator → length_until separator (b ∷ s) ≡ length_until separator s + 1
 unfolding length_until
-until_on separator s i h e = rw (add-one i, drop-cons s i 0 h, ne_eqb _ _ e)
+until_on separator b s e = rw (ne_eqb _ _ e) (omega arith)
 
--- the three laws of the loop that looks for the end
-module _ (separator : ℕ) (s : List ℕ) (at i : ℕ) (left : i + length_until separator (drop i s) ≡ at + length_until separator (drop at s)) where
-  pub ends_here : at ≤ i → i < length s → byte s i ≡ separator → PieceEnds separator s at i
-  ends_here b h e = record { behind = b; within = omega arith; is = omega (arith, until_here separator s i h e) }
-
-  pub ends_last : at ≤ i → i ≤ length s → length s ≤ i → PieceEnds separator s at i
-  ends_last b w h = record { behind = b; within = w; is = omega (arith, until_end separator s i h) }
-
-  pub ends_on : i < length s → (byte s i ≡ separator → ⊥) → i + 1 + length_until separator (drop (i + 1) s) ≡ at + length_until separator (drop at s)
-  ends_on h e = omega (arith, until_on separator s i h e)
+pub ends_at_first : (separator : ℕ) (s : List ℕ) (at n : ℕ) (r : Option ℕ) → at ≤ length s → n ≡ unwrap_or r (length s - at)
+    → MatchOption r (AllWithin (λ b. b ≢ separator) (drop at s) 0 (length (drop at s)))
+    (λ i. (i < length (drop at s)) × HoldsAt (λ b. b ≡ separator) (drop at s) i × AllWithin (λ b. b ≢ separator) (drop at s) 0 i)
+    → PieceEnds separator s at (at + n)
+ends_at_first separator s at n r h e m =
+    let i : length_until separator (drop at s) ≡ unwrap_or r (length (drop at s)) =
+    index_from_first (length_until separator) (λ b. b ≡ separator) (λ b. b ≢ separator) (until_none separator) (until_here separator) (until_on separator) (drop at s) r m in
+    let j : length_until separator (drop at s) ≡ n = rw (length-drop at s) at i ∙ sym e in
+    record { behind = omega arith; within = omega (arith, until_le separator (drop at s), length-drop at s); is = omega arith }
 
 -- a piece has no separator in it, and unless the text ends with it, one stands behind it
 until_alone : (separator : ℕ) (s : List ℕ) → length_until separator (take (length_until separator s) s) ≡ length_until separator s
@@ -95,12 +96,6 @@ module _ (separator : ℕ) (s : List ℕ) (at end : ℕ) (ends : PieceEnds separ
       ap (byte s) ends.is
       ∙ sym (get_or-drop at s (length_until separator (drop at s)) 0)
       ∙ until_stops separator (drop at s) (omega (arith, ends.is, length-drop at s))
-
-pub below_digits : (b : ℕ) → b < digit0 → false ≡ is_digit b
-below_digits b h = rw (lt-leb digit0 b h)
-
-pub above_digit0 : (b : ℕ) → digit0 ≤ b → leb b (digit0 + 9) ≡ is_digit b
-above_digit0 b h = rw (le-leb digit0 b h)
 
 -- ---- the value of digits
 

@@ -12,15 +12,12 @@ ghost use Rattle.rules.specs.File.{byte};
 pub fn byte_at(bytes: &[u8], i: usize) -> u8
     ensures { result ≡ byte bytes.now i }
 {
-    if i < bytes.len() {
-        return bytes[i];
-    }
-    0
+    bytes.get(i).copied().unwrap_or(0)
 }
 
 // The byte at a place as a number.
 pub fn number_at(bytes: &[u8], i: usize) -> usize
     ensures { (result ≡ byte bytes.now i) × (result < byte_values) }
 {
-    byte_at(bytes, i) as usize
+    usize::from(byte_at(bytes, i))
 }

@@ -6,26 +6,18 @@ ghost use Rattle.rules.specs.Lines.{agree, same};
 pub fn shared(line: &[u8], text: &[u8]) -> usize
     ensures { result ≡ agree line.now text.now }
 {
-    let mut i = 0;
-    while i < line.len() {
-        if text.len() <= i {
-            return i;
-        }
+    let both = line.len().min(text.len());
+    for i in 0..both {
         if line[i] != text[i] {
             return i;
         }
-        i += 1;
     }
-    i
+    both
 }
 
 // Whether a line is a text.
 pub fn is_same(line: &[u8], text: &[u8]) -> bool
     ensures { result ≡ same line.now text.now }
 {
-    let both = shared(line, text);
-    if both != line.len() {
-        return false;
-    }
-    both == text.len()
+    line == text
 }

@@ -10,14 +10,11 @@ fn piece_end(bytes: &[u8], at: usize, separator: u8) -> usize
     requires { at ≤ length bytes.now }
     ensures { PieceEnds separator bytes.now at result }
 {
-    let mut end = at;
-    while end < bytes.len() {
-        if bytes[end] == separator {
-            return end;
-        }
-        end += 1;
-    }
-    end
+    let rest = &bytes[at..];
+    at + rest
+        .iter()
+        .position(|&b| b == separator)
+        .unwrap_or(rest.len())
 }
 
 // Where the word that begins at `at` ends: at the next space, or with the line.
@@ -39,20 +36,14 @@ pub fn line_end(bytes: &[u8], at: usize) -> usize
 pub fn is_digit(b: u8) -> bool
     ensures { result ≡ is_digit b }
 {
-    if b < b'0' {
-        return false;
-    }
-    b <= b'9'
+    b.is_ascii_digit()
 }
 
 // What a byte is worth as a digit.
 fn worth(b: u8) -> usize
     ensures { (result ≡ b - digit0) × (result < byte_values) }
 {
-    if b < b'0' {
-        return 0;
-    }
-    (b - b'0') as usize
+    usize::from(b.saturating_sub(b'0'))
 }
 
 // The value of a few digits.
@@ -61,10 +52,8 @@ pub fn value(digits: &[u8]) -> usize
     ensures { result ≡ value_from 0 digits.now }
 {
     let mut sum = 0;
-    let mut i = 0;
-    while i < digits.len() {
-        sum = 10 * sum + worth(digits[i]);
-        i += 1;
+    for &b in digits {
+        sum = 10 * sum + worth(b);
     }
     sum
 }

@@ -1,10 +1,7 @@
 -- Assumes nothing.
 use borrow.Author.Rules.{rules}
-use Rattle.lent_bytes.proofs.SameLaws.{shared_all, shared_short, shared_differ, shared_on}
+use Rattle.lent_bytes.proofs.SameLaws.{shared_all, shared_differ, shared_on}
 use Rattle.lent_bytes.proofs.texts.shared.Goals as goal
-
-pub returns-then-text-i : goal.returns-then-text-i
-returns-then-text-i c = search (rules, shared_short)
 
 pub returns-then-line-i : goal.returns-then-line-i
 returns-then-line-i c = search (rules, shared_differ)

@@ -9,8 +9,8 @@ overflow_mul-sum c = search (rules, room_tenfold)
 pub overflow_add-sum : goal.overflow_add-sum
 overflow_add-sum c = search (rules, room_next)
 
-pub loop-i-preserved : goal.loop-i-preserved
-loop-i-preserved c = search (rules, value_grows, value_on)
+pub loop-b-preserved : goal.loop-b-preserved
+loop-b-preserved c = search (rules, value_grows, value_on)
 
 pub returns : goal.returns
 returns c = search (rules, value_done)
