@@ -1,23 +1,23 @@
 -- Laws of text in a word: it is read back byte by byte, and it fits where its bytes do.
 -- Assumes nothing.
-use mathlib.Core.Path.{◌≡◌, refl, ap, ◌∙◌}
+use mathlib.Core.Path.{◌≡◌, refl, sym, ap, ap₂, ◌∙◌}
 use mathlib.Core.Bool.{true}
 use mathlib.Core.List.{List, [], ◌∷◌, ◌++◌}
 use Prim.Native.Nat.{ℕ, zero, suc, ◌+◌, ◌*◌, ◌/◌, ◌%◌, ◌^◌, ◌≤◌, ◌<◌}
 use native.Mathlib.Omega.{arith}
-use native.Mathlib.Nat.{zero-add, suc-add, pow-suc, pow-le-pow_right, mul_right_comm}
+use native.Mathlib.Nat.{zero-add, suc-add, pow-suc, pow-le-pow_right, mul_right_comm, div-div-eq-div-mul}
 use borrow.Author.Tests.{ltb-true, lt-ltb}
 use lib.Dec.{lit<}
-use lib.ListN.{length, set}
+use lib.ListN.{length}
+use mir.Syntax.{w64}
+use Rattle.std.specs.Int.{bytes_low_first, to_le_bytes}
 use Rattle.rules.specs.Limits.{byte_values}
 use Rattle.rules.specs.Counting.{every}
 use Rattle.rules.specs.Text.{digit0, decimal}
 use Rattle.rules.proofs.Decimal.{decimal_few, decimal_every}
 use Rattle.rules.proofs.Bools.{and_left, and_right}
 use Rattle.rules.proofs.Files.{is_byte}
-use Rattle.digits.specs.Over.{over}
 use Rattle.digits.specs.Word.{in_word, low_bytes}
-use Rattle.digits.proofs.Overs.{over_over, sets_over}
 
 pub length-low : (m w : ℕ) → length (low_bytes m w) ≡ m
 unfolding low_bytes
@@ -71,30 +71,15 @@ number_back m more high = read_back (decimal m) more high (decimal_bytes m)
 
 -- ---- stores
 
--- four stores write the four lowest bytes
-pub four_stored : (l : List ℕ) (at w : ℕ) → at + 4 ≤ length l
-    → set
-    (set
-    (set
-    (set l at (w % byte_values))
-    (at + 1)
-    (w / byte_values % byte_values))
-    (at + 2)
-    (w / byte_values / byte_values % byte_values))
-    (at + 3)
-    (w / byte_values / byte_values / byte_values % byte_values)
-    ≡ over l at (low_bytes 4 w)
+-- a word's bytes as the library's method gives them, from the lowest up
+pub bytes_are_low : (i m w : ℕ) → bytes_low_first i m w ≡ low_bytes m (w / byte_values ^ i)
 unfolding low_bytes
-four_stored l at w h =
-    let one : at + 1 ≡ suc at = omega arith in
-    let two : at + 2 ≡ suc (suc at) = omega arith in
-    let three : at + 3 ≡ suc (suc (suc at)) = omega arith in
-    rw (one, two, three) (sets_over l at (low_bytes 4 w) h)
+bytes_are_low i zero w = refl
+bytes_are_low zero (suc m) w = ap₂ (λ b r. b ∷ r) (omega arith) (bytes_are_low 1 m w ∙ ap (low_bytes m) (omega arith))
+bytes_are_low (suc i) (suc m) w =
+    let shifted : w / byte_values ^ suc (suc i) ≡ w / byte_values ^ suc i / byte_values =
+    ap (λ p. w / p) (pow-suc byte_values (suc i)) ∙ sym (div-div-eq-div-mul w (byte_values ^ suc i) byte_values) in
+    ap (λ r. w / byte_values ^ suc i % byte_values ∷ r) (bytes_are_low (suc (suc i)) m w ∙ ap (low_bytes m) shifted)
 
--- twice four bytes are eight
-pub eight_stored : (l half whole : List ℕ) (at w : ℕ) → half ≡ over l at (low_bytes 4 w) → whole ≡ over half (at + 4) (low_bytes 4 (w / 2 ^ 32))
-    → whole ≡ over l at (low_bytes 8 w)
-unfolding low_bytes
-eight_stored l half whole at w e f =
-    let shifted : w / 2 ^ 32 ≡ w / byte_values / byte_values / byte_values / byte_values = omega arith in
-    f ∙ rw (e, shifted) (over_over l at (low_bytes 4 w) (low_bytes 4 (w / byte_values / byte_values / byte_values / byte_values)))
+pub eight_are_low : (w : ℕ) → to_le_bytes w64 w ≡ low_bytes 8 w
+eight_are_low w = bytes_are_low 0 8 w ∙ ap (low_bytes 8) (omega arith)

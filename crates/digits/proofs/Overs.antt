@@ -5,6 +5,7 @@ use mathlib.Core.List.{List, [], ◌∷◌, ◌++◌, append_assoc, append-nil}
 use Prim.Native.Nat.{ℕ, zero, suc, ◌+◌, ◌-◌, ◌≤◌, ◌<◌}
 use native.Mathlib.Omega.{arith}
 use native.Mathlib.Nat.{add-zero, zero-add, suc-add}
+use borrow.Rule.Slice.PartMut.{put_mid}
 use lib.ListN.{length, take, drop, set, take-append-drop, length-append, length-take, length-drop, drop_of_length-le}
 use lib.Seq.{take_all, set_split, take-set-le, drop-append-add, take-append_seam, drop-drop, drop_at, length-take-le, sets, sets-eq}
 use Rattle.digits.specs.Over.{over, Wrote}
@@ -87,6 +88,11 @@ module _ {X : Type 0} where
       ap (λ r. over r (i + length x) y) (sym (over_over l i x z))
       ∙ over_again (over l i x) (i + length x) z y (omega (arith, length_over l i x b)) h
       ∙ over_over l i x y
+
+  -- what a copy into a part leaves
+  pub part_over : (l x y : List X) (i k : ℕ) → y ≡ x → k ≡ length x → put_mid i k l y ≡ over l i x
+  unfolding over
+  part_over l x y i k e f = rw (e, f) (ap (λ r. take i l ++ (x ++ r)) (drop-drop (length x) i l))
 
 -- ---- one text behind the other
 

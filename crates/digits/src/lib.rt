@@ -15,6 +15,7 @@ pub fn digit_count(m: usize) -> usize
 {
     let mut n = 1;
     let mut past = 10;
+    // A number's digits: no index is counted, each turn is the next power of ten, and the library has no integer logarithm.
     while past <= m {
         n += 1;
         past *= 10;
@@ -38,12 +39,8 @@ pub fn put_text(out: &mut [u8], at: usize, text: &[u8]) -> usize
     ensures written { out.new ≡ over out.old at text.now }
     ensures behind { result ≡ at + length text.now }
 {
-    let mut end = at;
-    let mut i = 0;
-    while i < text.len() {
-        end = put_byte(out, end, text[i]);
-        i += 1;
-    }
+    let end = at + text.len();
+    out[at..end].copy_from_slice(text);
     end
 }
 
@@ -56,6 +53,7 @@ pub fn put(out: &mut [u8], at: usize, m: usize) -> usize
     let end = at + digit_count(m);
     let mut i = end - 1;
     let mut rest = m;
+    // A number's digits, the last first: how many turns there are is told by the number alone.
     while 10 <= rest {
         out[i] = b'0' + (rest % 10) as u8;
         rest /= 10;

@@ -17,6 +17,7 @@ pub fn word_of(m: usize, high: u64) -> u64
 {
     let mut w = high;
     let mut rest = m as u64;
+    // A number's digits, the last first: how many turns there are is told by the number alone.
     while 10 <= rest {
         w = DIGIT0 + rest % 10 + BYTE_VALUES * w;
         rest /= 10;
@@ -24,25 +25,10 @@ pub fn word_of(m: usize, high: u64) -> u64
     DIGIT0 + rest + BYTE_VALUES * w
 }
 
-// Writes the four lowest bytes of a word.
-fn put4(out: &mut [u8], at: usize, w: u64)
-    requires { at + 4 ≤ length out.old }
-    ensures { out.new ≡ over out.old at (low_bytes 4 w) }
-{
-    let w1 = w / BYTE_VALUES;
-    let w2 = w1 / BYTE_VALUES;
-    let w3 = w2 / BYTE_VALUES;
-    out[at] = (w % BYTE_VALUES) as u8;
-    out[at + 1] = (w1 % BYTE_VALUES) as u8;
-    out[at + 2] = (w2 % BYTE_VALUES) as u8;
-    out[at + 3] = (w3 % BYTE_VALUES) as u8;
-}
-
 // Writes all eight bytes of a word, the lowest first.
 pub fn put8(out: &mut [u8], at: usize, w: u64)
     requires { at + 8 ≤ length out.old }
     ensures { out.new ≡ over out.old at (low_bytes 8 w) }
 {
-    put4(out, at, w);
-    put4(out, at + 4, w >> 32);
+    out[at..at + 8].copy_from_slice(&w.to_le_bytes());
 }
