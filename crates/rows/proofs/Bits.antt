@@ -8,13 +8,12 @@ use Prim.Native.Nat.{ℕ, zero, suc, ◌+◌, ◌-◌, ◌*◌, ◌/◌, ◌%◌
 use native.Mathlib.Omega.{arith}
 use native.Mathlib.Numerals.{one-add}
 use native.Mathlib.Nat.{pow-suc, mul_assoc, one-mul, zero-mul, zero-div, le_trans, mul-le-mul_right, div-mul-le_self, mod-le}
-use borrow.Author.Fill.{fill_more}
 use borrow.Author.Tests.{eq-eqb, ne_eqb, eqb-true, eqb-false}
 use lib.Dec.{eqb}
 use lib.Bits.{bit_and, bit_or, and_high, or_add_and}
 use lib.Pow.{shr-shr, pow-add, shl_exact}
-use lib.ListN.{length, get_or, set, drop, replicate, length-set, length-replicate, get_or-eq_default}
-use lib.Seq.{get_or-set_same, get_or-set_other, set-set, set_comm, set-get_or, set_out}
+use lib.ListN.{length, get_or, set, take, drop, replicate, length-set, length-replicate}
+use lib.Seq.{length-take-le, get_or-set_same, get_or-set_other, set-set, set_comm, set-get_or, set_out}
 use Rattle.rules.specs.Rows.{bit_of, with_bit, bit_of_variable, with_variable, over_row, word_bits}
 use Rattle.rules.proofs.Bools.{either, below_or}
 
@@ -178,22 +177,16 @@ unfolding with_variable
 length-with row v b = length-set row ((v - 1) / word_bits) (with_bit (get_or row ((v - 1) / word_bits) 0) ((v - 1) % word_bits) b)
 
 -- inside the row
-pub bit_in : (row : List ℕ) (v : ℕ) → bit_of (get_or row ((v - 1) / word_bits) 0) ((v - 1) % word_bits) ≡ bit_of_variable row v
+pub bit_is : (row : List ℕ) (v w : ℕ) → w ≡ get_or row ((v - 1) / word_bits) 0 → bit_of w ((v - 1) % word_bits) ≡ bit_of_variable row v
 unfolding bit_of_variable
-bit_in row v = refl
+bit_is row v w e = ap (λ w. bit_of w ((v - 1) % word_bits)) e
 
 pub with_in : (row : List ℕ) (v w : ℕ) (b : Bool) → w ≡ with_bit (get_or row ((v - 1) / word_bits) 0) ((v - 1) % word_bits) b
     → set row ((v - 1) / word_bits) w ≡ with_variable row v b
 unfolding with_variable
 with_in row v w b e = ap (set row ((v - 1) / word_bits)) e
 
--- behind the row there is no bit, and nothing to write
-pub bit_behind : (row : List ℕ) (v : ℕ) → length row ≤ (v - 1) / word_bits → false ≡ bit_of_variable row v
-unfolding bit_of_variable
-bit_behind row v h =
-    sym (digit_bit (get_or row ((v - 1) / word_bits) 0) ((v - 1) % word_bits) false
-    (ap (λ w. digit w ((v - 1) % word_bits)) (get_or-eq_default row 0 h) ∙ zero_digit ((v - 1) % word_bits)))
-
+-- behind the row there is nothing to write
 pub with_behind : (row : List ℕ) (v : ℕ) (b : Bool) → length row ≤ (v - 1) / word_bits → row ≡ with_variable row v b
 unfolding with_variable
 with_behind row v b h = sym (at_behind row ((v - 1) / word_bits) ((v - 1) % word_bits) b h)
@@ -240,19 +233,11 @@ with_order row u v b c h =
     let j : ℕ = (v - 1) % word_bits in
     apart u v h (λ w. words_order row k l i j b c w) (λ e d. rw e (at_order row l i j b c d))
 
--- ---- the first words of a row set to 0, one more each turn
+-- ---- the first words of a row set to 0
 
-pub cleared_none : (row : List ℕ) → row ≡ over_row (replicate 0 0) row
+pub cleared : (row part : List ℕ) (n m : ℕ) → n ≤ length row → m ≡ length (take n row) → part ≡ replicate m 0
+    → part ++ drop n row ≡ over_row (replicate n 0) row
 unfolding over_row
-cleared_none row = refl
-
-pub cleared_more : (row cleared : List ℕ) (i : ℕ) → i < length row → cleared ≡ over_row (replicate i 0) row
-    → set cleared i 0 ≡ over_row (replicate (i + 1) 0) row
-unfolding over_row
-cleared_more row cleared i h e =
-    ap (λ r. set r i 0) (e ∙ ap (λ k. replicate i 0 ++ drop k row) (length-replicate i 0))
-    ∙ fill_more i 0 row h
-    ∙ ap (λ k. replicate (i + 1) 0 ++ drop k row) (sym (length-replicate (i + 1) 0))
-
-pub cleared_all : (row cleared : List ℕ) (i n : ℕ) → i ≤ n → n ≤ i → cleared ≡ over_row (replicate i 0) row → cleared ≡ over_row (replicate n 0) row
-cleared_all row cleared i n h k e = let same : i ≡ n = omega arith in rw same at e
+cleared row part n m h f e =
+    let same : m ≡ n = f ∙ length-take-le n row h in
+    rw (e, same) (ap (λ k. replicate n 0 ++ drop k row) (sym (length-replicate n 0)))

@@ -15,7 +15,7 @@ const WORD_BITS: usize = 64;
 pub fn words_for(m: usize) -> usize
     ensures { result ≡ words_for m }
 {
-    m / WORD_BITS + (m % WORD_BITS + (WORD_BITS - 1)) / WORD_BITS
+    m.div_ceil(WORD_BITS)
 }
 
 // Whether a variable's bit is set; behind the row no bit is.
@@ -24,11 +24,7 @@ pub fn is_set(row: &[u64], variable: usize) -> bool
     ensures { result ≡ bit_of_variable row.now variable }
 {
     let place = variable - 1;
-    let at = place / WORD_BITS;
-    if row.len() <= at {
-        return false;
-    }
-    (row[at] >> (place % WORD_BITS)) % 2 == 1
+    (word_at(row, place / WORD_BITS) >> (place % WORD_BITS)) % 2 == 1
 }
 
 // The word with a bit written: set, or set and then less its worth.
@@ -60,21 +56,14 @@ pub fn clear(row: &mut [u64], words: usize)
     requires { words ≤ length row.old }
     ensures { row.new ≡ over_row (replicate words 0) row.old }
 {
-    let mut i = 0;
-    while i < words {
-        row[i] = 0;
-        i += 1;
-    }
+    row[..words].fill(0);
 }
 
 // The word of a row; behind the row it is 0.
 fn word_at(row: &[u64], at: usize) -> u64
     ensures { result ≡ get_or row.now at 0 }
 {
-    if row.len() <= at {
-        return 0;
-    }
-    row[at]
+    row.get(at).copied().unwrap_or(0)
 }
 
 // A word of both rows in one: the truth of what is given, and what is not given counts as `unnamed`.
@@ -100,11 +89,7 @@ fn bits_from(given: &[u64], truth: &[u64], unnamed: bool, place: usize) -> u64
 fn in_word(place: usize, left: usize) -> usize
     ensures { result ≡ min (word_bits - place % word_bits) left }
 {
-    let rest = WORD_BITS - place % WORD_BITS;
-    if left < rest {
-        return left;
-    }
-    rest
+    (WORD_BITS - place % WORD_BITS).min(left)
 }
 
 // How many of the lowest `size` bits of a word are set: the ones of the masked word.
@@ -140,6 +125,7 @@ pub fn count_set(given: &[u64], truth: &[u64], unnamed: bool, from: usize, many:
 {
     let mut count = 0;
     let mut done = 0;
+    // Each turn goes on by as many variables as stand in one word.
     while done < many {
         let place = from - 1 + done;
         let size = in_word(place, many - done);
@@ -155,6 +141,7 @@ pub fn first_set(given: &[u64], truth: &[u64], unnamed: bool, from: usize, many:
     ensures { result ≡ first many (set_from (counts_true unnamed (lent given.now truth.now)) from) }
 {
     let mut done = 0;
+    // Each turn goes on by as many variables as stand in one word.
     while done < many {
         let place = from - 1 + done;
         let size = in_word(place, many - done);
