@@ -25,10 +25,8 @@ pub fn start(body: &[u8]) -> State
     ensures { result.values ≡ start_values body.now }
 {
     let mut values = [0; MAX_VARIABLES];
-    let mut x = 0;
-    while x < MAX_VARIABLES {
-        values[x] = lent_bytes::byte_at(body, x);
-        x += 1;
+    for (x, value) in values.iter_mut().enumerate() {
+        *value = lent_bytes::byte_at(body, x);
     }
     State { values }
 }
@@ -47,14 +45,12 @@ fn first_unmet(values: &[u8], pairs: &[u8], at: usize, count: usize) -> usize
     requires { at + pair_bytes * count < 2 ^ 64 }
     ensures { result ≡ first_unmet values.now (pairs_at pairs.now at count) }
 {
-    let mut i = 0;
-    while i < count {
+    for i in 0..count {
         if !pair_holds(values, pairs, at + PAIR_BYTES * i) {
             return i;
         }
-        i += 1;
     }
-    i
+    count
 }
 
 // The action that begins `action` applies: all its preconditions hold.
@@ -86,15 +82,13 @@ fn set_pairs(values: &mut [u8], pairs: &[u8], at: usize, count: usize)
     requires { at + pair_bytes * count < 2 ^ 64 }
     ensures { values.new ≡ set_pairs values.old (pairs_at pairs.now at count) }
 {
-    let mut i = 0;
-    while i < count {
+    for i in 0..count {
         let p = at + PAIR_BYTES * i;
         set_value(
             &mut *values,
             lent_bytes::number_at(pairs, p),
             lent_bytes::byte_at(pairs, p + 1),
         );
-        i += 1;
     }
 }
 

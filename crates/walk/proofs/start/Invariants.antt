@@ -1,14 +1,10 @@
 -- `start` meets its contract. The loop's invariant: the values before x are the start body's.
 -- Assumes nothing.
 use mathlib.Core.Path.{◌≡◌}
-use Prim.Native.Nat.{◌≤◌, ◌-◌}
 use lib.ListN.{length}
 use Rattle.rules.specs.Limits.{max_variables}
 use Rattle.walk.proofs.Loops.{Filled}
 use Rattle.walk.proofs.start.Given as goal
 
 abbrev pub invariant-loop-x : goal.invariant-loop-x
-invariant-loop-x l = (l.x ≤ max_variables) × (length l.values ≡ max_variables) × Filled l.body l.values l.x
-
-abbrev pub decreases-loop-x : goal.decreases-loop-x
-decreases-loop-x l = max_variables - l.x
+invariant-loop-x l = (length l.value-items ≡ max_variables) × Filled l.body l.value-items l.x
