@@ -22,33 +22,32 @@ use Rattle.rules.proofs.Bools.{and_left, not_true, not_false}
 use Rattle.rules.proofs.Judging.{judge_refused, judge_passed, judge_nil}
 use Rattle.rules.proofs.Loops.{none_more, found_at, first_beyond}
 use Rattle.rules.proofs.Rests.{Reached, reached_all, reached_below, reached_rest, reached_next, action_read_lem}
-use Rattle.reader.specs.declared.actions.ActionRead.{ActionRead}
-use Rattle.reader.specs.declared.actions.ActionRead.TheVariants.{Whole, AtFault}
+use Rattle.std.specs.Prelude.{Option, Some, None}
 use Rattle.reader.specs.Bodies.{task_in, sized, bodies_rules, actions_rule, action_read}
 
 -- ---- one action, with p preconditions and e effects; b and c are what was found of the two lists
 
 module _ (sizes rest : List ℕ) where
-  pub counts_cut : length rest < count_bytes → AtFault ≡ action_read sizes rest
+  pub counts_cut : length rest < count_bytes → None ≡ action_read sizes rest
   unfolding action_read
   counts_cut h = rw (lt-leb (action_bytes rest) (length rest) (omega arith))
 
   module _ (p e : ℕ) (ep : p ≡ byte rest 0) (ee : e ≡ byte rest 1) where
-    pub pairs_cut : length rest < count_bytes + pair_bytes * (p + e) → AtFault ≡ action_read sizes rest
+    pub pairs_cut : length rest < count_bytes + pair_bytes * (p + e) → None ≡ action_read sizes rest
     unfolding action_read
     pairs_cut h = rw (lt-leb (action_bytes rest) (length rest) (omega arith))
 
     module _ (h : count_bytes + pair_bytes * (p + e) ≤ length rest) (b : Bool) (eb : b ≡ list_in_order (sized sizes) (pairs_at rest count_bytes p)) where
-      pub preconditions_wrong : not b ≡ true → AtFault ≡ action_read sizes rest
+      pub preconditions_wrong : not b ≡ true → None ≡ action_read sizes rest
       unfolding action_read action_in_order action_in
       preconditions_wrong f = rw (le-leb (action_bytes rest) (length rest) (omega arith), ← ep, ← eb, not_true b f)
 
       module _ (t : not b ≡ false) (c : Bool) (ec : c ≡ list_in_order (sized sizes) (pairs_at rest (count_bytes + pair_bytes * p) e)) where
-        pub effects_wrong : not c ≡ true → AtFault ≡ action_read sizes rest
+        pub effects_wrong : not c ≡ true → None ≡ action_read sizes rest
         unfolding action_read action_in_order action_in
         effects_wrong f = rw (le-leb (action_bytes rest) (length rest) (omega arith), ← ep, ← ee, ← eb, not_false b t, ← ec, not_true c f)
 
-        pub action_whole : not c ≡ false → Whole (count_bytes + pair_bytes * (p + e)) ≡ action_read sizes rest
+        pub action_whole : not c ≡ false → Some (count_bytes + pair_bytes * (p + e)) ≡ action_read sizes rest
         unfolding action_read action_in_order action_in
         action_whole f = rw (le-leb (action_bytes rest) (length rest) (omega arith), ← ep, ← ee, ← eb, not_false b t, ← ec, not_false c f)
 
@@ -62,11 +61,11 @@ false_right true b h = h
 false_right false b h = refl
 
 -- what a reading says of the tests
-read_whole : (t : Bool) (bytes k : ℕ) → cond t (Whole bytes) AtFault ≡ Whole k → (t ≡ true) × (k ≡ bytes)
+read_whole : (t : Bool) (bytes k : ℕ) → cond t (Some bytes) None ≡ Some k → (t ≡ true) × (k ≡ bytes)
 read_whole true bytes k h = (refl, cc)
 read_whole false bytes k h = let z : ◌≡◌ {A = ℕ} 0 1 = cc in absurd (omega arith)
 
-read_fault : (t : Bool) (bytes : ℕ) → cond t (Whole bytes) AtFault ≡ AtFault → t ≡ false
+read_fault : (t : Bool) (bytes : ℕ) → cond t (Some bytes) None ≡ None → t ≡ false
 read_fault true bytes h = let z : ◌≡◌ {A = ℕ} 0 1 = cc in absurd (omega arith)
 read_fault false bytes h = refl
 
@@ -86,12 +85,12 @@ module _ (sizes s : List ℕ) where
       fault_here =
           rw (sized_action (task_in sizes [] [] s) (action (task_in sizes [] [] s) a), action_read_lem (rests s) a, reached_rest s at a reached l)
 
-      module _ (r : ActionRead) (er : r ≡ action_read sizes (take (length s - at) (drop at s))) where
-        read_here : r ≡ cond in_order (Whole (action_bytes (drop at s))) AtFault
+      module _ (r : Option ℕ) (er : r ≡ action_read sizes (take (length s - at) (drop at s))) where
+        read_here : r ≡ cond in_order (Some (action_bytes (drop at s))) None
         unfolding action_read
         read_here = er ∙ ap (action_read sizes) (take_all (length s - at) (drop at s) (omega (arith, length-drop at s)))
 
-        module _ (bytes : ℕ) (e : r ≡ Whole bytes) where
+        module _ (bytes : ℕ) (e : r ≡ Some bytes) where
           whole : (in_order ≡ true) × (bytes ≡ action_bytes (drop at s))
           whole = read_whole in_order (action_bytes (drop at s)) bytes (sym read_here ∙ e)
 
@@ -113,7 +112,7 @@ module _ (sizes s : List ℕ) where
           pub action_fine : first a at_fault ≡ a → first (a + 1) at_fault ≡ a + 1
           action_fine n = none_more at_fault a (not in_order) n (sym fault_here) (ap not whole.0)
 
-        pub action_wrong : r ≡ AtFault → at_fault a ≡ true
+        pub action_wrong : r ≡ None → at_fault a ≡ true
         action_wrong e = fault_here ∙ ap not (read_fault in_order (action_bytes (drop at s)) (sym read_here ∙ e))
 
   -- ---- the verdict
@@ -132,8 +131,8 @@ module _ (sizes s : List ℕ) where
         let more : a < count = omega (arith, reached_below s at a reached l, length-map (rests s) action_in) in
         refused_with max_actions (false_right (eqb (first count at_fault) count) _ (lt-leb count max_actions (omega arith))) (omega (arith, first_beyond at_fault count a fine (omega arith)))
 
-    pub actions_wrong : (r : ActionRead) → a ≤ max_actions → (a ≡ max_actions → ⊥) → at < length s
-        → r ≡ action_read sizes (take (length s - at) (drop at s)) → r ≡ AtFault → Refused (ActionAtFault a) ≡ judge (actions_rule sizes s)
+    pub actions_wrong : (r : Option ℕ) → a ≤ max_actions → (a ≡ max_actions → ⊥) → at < length s
+        → r ≡ action_read sizes (take (length s - at) (drop at s)) → r ≡ None → Refused (ActionAtFault a) ≡ judge (actions_rule sizes s)
     actions_wrong r few not_last l er e =
         let more : a < count = omega (arith, reached_below s at a reached l, length-map (rests s) action_in) in
         let here : a ≡ first count at_fault = found_at at_fault count a (at_fault a) fine more refl (action_wrong at a reached l r er e) in

@@ -3,10 +3,12 @@
 use mathlib.Core.Path.{◌≡◌, refl, sym, ap, ◌∙◌}
 use mathlib.Core.Logic.{⊎_elim}
 use mathlib.Core.Bool.{Bool, true, false, not, ◌&&◌}
-use mathlib.Core.List.{List, []}
+use mathlib.Core.List.{List, [], ◌∷◌}
 use Prim.Native.Nat.{ℕ, zero, suc, ◌+◌, ◌-◌, ◌*◌, ◌/◌, ◌%◌, ◌≤◌, ◌<◌}
 use native.Mathlib.Omega.{arith}
 use borrow.Author.Tests.{eq-eqb, ne_eqb, le-leb, lt-leb, lt-ltb, le-ltb}
+use Rattle.std.specs.Prelude.{sum_by}
+use Rattle.std.proofs.lemmas.List.Sums.{sum_by-cons}
 use lib.Dec.{eqb, leb, ltb}
 use lib.ListN.{length}
 use Rattle.rules.specs.Counting.{sum_to, first}
@@ -14,6 +16,7 @@ use Rattle.rules.specs.Limits.{max_variables, max_goals, max_domain, max_pairs, 
 use Rattle.rules.specs.Task.{d, S, size_at_fault, start_at_fault, pair_at_fault, list_in_order}
 use Rattle.rules.specs.File.{byte, pairs_at}
 use Rattle.rules.proofs.Bools.{below_or}
+use Rattle.rules.proofs.Counting.{sum_to-front}
 use Rattle.rules.proofs.PairBytes.{length-pairs_at, rises_at, fault_at, fault_alone}
 use Rattle.reader.specs.Bodies.{sized, task_in}
 
@@ -67,8 +70,13 @@ module _ (sizes : List ℕ) (x v : ℕ) (e : v ≡ byte sizes x) where
   unfolding start_at_fault
   start_outside start w f = rw (← e, ← f) (leb_not v w)
 
-pub sum_all : (sizes : List ℕ) (x sum : ℕ) → sum ≡ sum_to x (d (sized sizes)) → x ≤ length sizes → length sizes ≤ x → sum ≡ S (sized sizes)
-sum_all sizes x sum h l k = let e : x ≡ length sizes = omega arith in h ∙ ap (λ m. sum_to m (d (sized sizes))) e
+sum_none : (w : ℕ → ℕ) → 0 ≡ sum_to 0 w
+unfolding sum_to
+sum_none w = refl
+
+pub sum_is : (sizes : List ℕ) → sum_by (λ x. x) sizes ≡ S (sized sizes)
+sum_is [] = sum_none (d (sized []))
+sum_is (b ∷ sizes) = sum_by-cons (λ x. x) b sizes ∙ ap (λ k. b + k) (sum_is sizes) ∙ sym (sum_to-front (length sizes) (d (sized (b ∷ sizes))))
 
 -- ---- pairs; v is the pair's variable, w its value, z the size of that variable's domain, u the variable of the pair before
 

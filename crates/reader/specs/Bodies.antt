@@ -1,12 +1,10 @@
 -- The task that four bodies state, and what is judged of a body by itself.
 -- Assumes nothing.
-use Rattle.std.specs.Prelude.{ℕ, ◌%◌, ◌/◌, cond, ◌&&◌, List, [], map, leb, eqb, length, drop}
+use Rattle.std.specs.Prelude.{ℕ, ◌%◌, ◌/◌, cond, ◌&&◌, List, [], Option, Some, None, map, leb, eqb, length, drop}
 use Rattle.rules.specs.Limits.{pair_bytes}
 use Rattle.rules.specs.Answers.{Rule}
 use Rattle.rules.specs.Task.{Task, action_in_order, task_rules}
 use Rattle.rules.specs.File.{pairs_at, action_bytes, action_in, rests, is_whole}
-use Rattle.reader.specs.declared.actions.ActionRead.{ActionRead}
-use Rattle.reader.specs.declared.actions.ActionRead.TheVariants.{Whole, AtFault}
 
 abbrev pub task_in : (sizes start goal actions : List ℕ) → Task
 task_in sizes start goal actions =
@@ -29,7 +27,7 @@ actions_rule sizes actions = drop 4 (bodies_rules sizes [] [] actions)
 abbrev pub sized : List ℕ → Task
 sized sizes = record { sizes = sizes; start = []; goal = []; actions = [] }
 
--- what the action is that begins a stretch
-unfoldable pub action_read : (sizes rest : List ℕ) → ActionRead
+-- how many bytes the action takes that begins a stretch; none where it is at fault
+unfoldable pub action_read : (sizes rest : List ℕ) → Option ℕ
 action_read sizes rest =
-    cond (leb (action_bytes rest) (length rest) && action_in_order (sized sizes) (action_in rest)) (Whole (action_bytes rest)) AtFault
+    cond (leb (action_bytes rest) (length rest) && action_in_order (sized sizes) (action_in rest)) (Some (action_bytes rest)) None

@@ -8,28 +8,21 @@ use crate::contents::byte_at;
 use crate::limits::{COUNT_BYTES, MAX_ACTIONS, PAIR_BYTES};
 use rules::{Refusal, Verdict};
 
-// One action: how many bytes it takes, or that it is at fault.
-#[derive(Clone, Copy)]
-pub enum ActionRead {
-    Whole(usize),
-    AtFault,
-}
-
-// The action that begins `rest`.
-pub(crate) fn read_action(sizes: &[u8], rest: &[u8]) -> ActionRead
+// How many bytes the action takes that begins `rest`; none where it is at fault.
+pub(crate) fn read_action(sizes: &[u8], rest: &[u8]) -> Option<usize>
     ensures { result ≡ action_read sizes.now rest.now }
 {
     if rest.len() < COUNT_BYTES {
-        return ActionRead::AtFault;
+        return None;
     }
     let preconditions = byte_at(rest, 0);
     let effects = byte_at(rest, 1);
     let bytes = COUNT_BYTES + PAIR_BYTES * (preconditions + effects);
     if rest.len() < bytes {
-        return ActionRead::AtFault;
+        return None;
     }
     if !list_in_order(sizes, rest, COUNT_BYTES, preconditions) {
-        return ActionRead::AtFault;
+        return None;
     }
     if !list_in_order(
         sizes,
@@ -37,9 +30,9 @@ pub(crate) fn read_action(sizes: &[u8], rest: &[u8]) -> ActionRead
         COUNT_BYTES + PAIR_BYTES * preconditions,
         effects,
     ) {
-        return ActionRead::AtFault;
+        return None;
     }
-    ActionRead::Whole(bytes)
+    Some(bytes)
 }
 
 // Refusal 7.
@@ -48,11 +41,12 @@ pub(crate) fn actions_verdict(sizes: &[u8], actions: &[u8]) -> Verdict
 {
     let mut at = 0;
     let mut a = 0;
+    // Each turn goes on by as many bytes as the action takes that it read.
     while at < actions.len() {
         if a == MAX_ACTIONS {
             return Verdict::Refused(Refusal::ActionAtFault(MAX_ACTIONS));
         }
-        let ActionRead::Whole(bytes) = read_action(sizes, &actions[at..]) else {
+        let Some(bytes) = read_action(sizes, &actions[at..]) else {
             return Verdict::Refused(Refusal::ActionAtFault(a));
         };
         at += bytes;

@@ -44,14 +44,12 @@ fn size_at_fault(sizes: &[u8], x: usize) -> bool
 pub(crate) fn first_size_at_fault(sizes: &[u8]) -> usize
     ensures { result ≡ first (length sizes.now) (size_at_fault (sized sizes.now)) }
 {
-    let mut x = 0;
-    while x < sizes.len() {
+    for x in 0..sizes.len() {
         if size_at_fault(sizes, x) {
             return x;
         }
-        x += 1;
     }
-    x
+    sizes.len()
 }
 
 // S, the sum of all sizes.
@@ -59,13 +57,7 @@ pub(crate) fn sum_of_sizes(sizes: &[u8]) -> usize
     requires { length sizes.now ≤ max_variables }
     ensures { result ≡ S (sized sizes.now) }
 {
-    let mut x = 0;
-    let mut sum = 0;
-    while x < sizes.len() {
-        sum += byte_at(sizes, x);
-        x += 1;
-    }
-    sum
+    sizes.iter().map(|&size| usize::from(size)).sum()
 }
 
 // The start value of variable x is outside its domain.
@@ -81,14 +73,12 @@ pub(crate) fn first_start_at_fault(sizes: &[u8], start: &[u8]) -> usize
     requires { length start.now ≡ length sizes.now }
     ensures { result ≡ first (length sizes.now) (start_at_fault (task_in sizes.now start.now [] [])) }
 {
-    let mut x = 0;
-    while x < sizes.len() {
+    for x in 0..sizes.len() {
         if start_at_fault(sizes, start, x) {
             return x;
         }
-        x += 1;
     }
-    x
+    sizes.len()
 }
 
 // The last of the i + 1 pairs from place at on is outside, or not above the one before. The variable is tested before its size is looked up.
@@ -114,14 +104,12 @@ pub(crate) fn first_pair_at_fault(sizes: &[u8], s: &[u8], at: usize, count: usiz
     requires { at + pair_bytes * count ≤ length s.now }
     ensures { result ≡ first count (pair_at_fault (sized sizes.now) (pairs_at s.now at count)) }
 {
-    let mut i = 0;
-    while i < count {
+    for i in 0..count {
         if pair_at_fault(sizes, s, at, i) {
             return i;
         }
-        i += 1;
     }
-    i
+    count
 }
 
 // At most eight pairs from place at on, none at fault.

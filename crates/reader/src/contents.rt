@@ -13,7 +13,7 @@ pub fn byte_at(s: &[u8], i: usize) -> usize
     requires { i < length s.now }
     ensures { (result ≡ byte s.now i) × (result < byte_values) }
 {
-    s[i] as usize
+    usize::from(s[i])
 }
 
 // Two bytes from place i on, low byte first.
@@ -75,12 +75,10 @@ pub fn contents_verdict(file: &[u8]) -> Verdict
     if MAX_FILE < file.len() {
         return Verdict::Refused(Refusal::FileLength);
     }
-    let mut row = 0;
-    while row < CONTENTS_ROWS {
+    for row in 0..CONTENTS_ROWS {
         if row_at_fault(file, row) {
             return Verdict::Refused(Refusal::ContentsRow(row));
         }
-        row += 1;
     }
     Verdict::Accepted
 }

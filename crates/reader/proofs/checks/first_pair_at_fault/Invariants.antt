@@ -1,7 +1,6 @@
 -- `first_pair_at_fault` meets its contract. The loop's invariant: no pair before i is at fault.
 -- Assumes nothing.
 use mathlib.Core.Path.{◌≡◌}
-use Prim.Native.Nat.{◌≤◌, ◌-◌}
 use Rattle.rules.specs.Counting.{first}
 use Rattle.rules.specs.Task.{pair_at_fault}
 use Rattle.rules.specs.File.{pairs_at}
@@ -9,7 +8,4 @@ use Rattle.reader.specs.Bodies.{sized}
 use Rattle.reader.proofs.checks.first_pair_at_fault.Given as goal
 
 abbrev pub invariant-loop-i : goal.invariant-loop-i
-invariant-loop-i l = (l.i ≤ l.count) × (first l.i (pair_at_fault (sized l.sizes) (pairs_at l.s l.at l.count)) ≡ l.i)
-
-abbrev pub decreases-loop-i : goal.decreases-loop-i
-decreases-loop-i l = l.count - l.i
+invariant-loop-i l = (first l.i (pair_at_fault (sized l.sizes) (pairs_at l.s l.at l.count)) ≡ l.i)

@@ -1,8 +1,6 @@
 -- `first_start_at_fault` meets its contract. The loop's invariant: no start value before x is at fault.
 -- Assumes nothing.
 use mathlib.Core.Path.{◌≡◌}
-use Prim.Native.Nat.{◌≤◌, ◌-◌}
-use lib.ListN.{length}
 use Rattle.rules.specs.Counting.{first}
 use Rattle.rules.specs.Task.{start_at_fault}
 use mathlib.Core.List.{[]}
@@ -10,7 +8,4 @@ use Rattle.reader.specs.Bodies.{task_in}
 use Rattle.reader.proofs.checks.first_start_at_fault.Given as goal
 
 abbrev pub invariant-loop-x : goal.invariant-loop-x
-invariant-loop-x l = (l.x ≤ length l.sizes) × (first l.x (start_at_fault (task_in l.sizes l.start [] [])) ≡ l.x)
-
-abbrev pub decreases-loop-x : goal.decreases-loop-x
-decreases-loop-x l = length l.sizes - l.x
+invariant-loop-x l = (first l.x (start_at_fault (task_in l.sizes l.start [] [])) ≡ l.x)
