@@ -1,18 +1,19 @@
 -- Bytes that give way to a pair: what stands from a place on is moved up, the last first, and the pair is written before it.
 -- Assumes nothing.
-use mathlib.Core.Path.{◌≡◌, refl, sym, ap, ◌∙◌}
+use mathlib.Core.Path.{◌≡◌, refl, sym, ap, ap₂, ◌∙◌}
 use mathlib.Core.List.{List, ◌∷◌, ◌++◌, append_assoc}
 use Prim.Native.Nat.{ℕ, suc, ◌+◌, ◌-◌, ◌*◌, ◌≤◌, ◌<◌}
 use native.Mathlib.Omega.{arith}
-use native.Mathlib.Nat.{suc-add}
-use lib.ListN.{length, take, drop, set, get_or, length-append, length-set, take-append-drop, get_or-append}
-use lib.Seq.{set_split, set_comm, take-append-le, take-take, take-add, drop-append-le, drop_at, length-take-le, get_or-take, slice, slice_empty, slice-cons, length-slice}
+use lib.ListN.{length, take, drop, set, length-append, length-set, take-append-drop}
+use lib.Seq.{set_split, set_comm, take-append-le, take-take, take-add, drop-append-le, drop_at, length-take-le, slice, length-slice}
+use Rattle.std.specs.List.{copy_within}
+use Rattle.std.proofs.lemmas.List.{drop-take}
 use Rattle.rules.specs.Limits.{pair_bytes}
 use Rattle.rules.specs.Task.{Pair}
-use Rattle.rules.specs.File.{byte, pairs_at, pair_text}
+use Rattle.rules.specs.File.{pairs_at, pair_text}
 use Rattle.rules.specs.Format.{put_in_order}
 use Rattle.digits.specs.Over.{over}
-use Rattle.digits.proofs.Overs.{over_none, over_over, length_over}
+use Rattle.digits.proofs.Overs.{over_over, length_over}
 use Rattle.bodies.specs.Keeping.{with_pair}
 use Rattle.bodies.specs.InOrder.{place_of, moved_up}
 use Rattle.bodies.proofs.InOrder.{place_within, text_at_place}
@@ -30,12 +31,6 @@ module _ {X : Type 0} where
       let end : suc i + length x ≡ i + suc (length x) = omega arith in
       set_split whole i a here
       ∙ rw (front, drop_at (take (suc i) l) rest (suc i) seam, end)
-
-  -- what stands before a part is as it was
-  pub before_over : (l : List X) (i j : ℕ) (x : List X) (z : X) → i < j → j ≤ length l → get_or (over l j x) i z ≡ get_or l i z
-  unfolding over
-  before_over l i j x z h b =
-      get_or-append (take j l) (x ++ drop (j + length x) l) z i (omega (arith, length-take-le j l b)) ∙ get_or-take j l i z h
 
   -- a part and what stands behind it
   pub slice_more : (l : List X) (a b n : ℕ) → a ≤ b → b ≤ length l → slice a b l ++ take n (drop b l) ≡ slice a (b + n) l
@@ -64,52 +59,17 @@ pub length-moved_up : (l : List ℕ) (from end : ℕ) → from ≤ end → end +
 unfolding moved_up
 length-moved_up l from end h b = length_over l (from + pair_bytes) (slice from end l) (omega (arith, length-slice from end l (omega arith)))
 
--- what is at i and behind it has been moved up
-pub record Lifted (l : List ℕ) (from end : ℕ) (now : List ℕ) (i : ℕ) : Type 0 where
-  pub above : from ≤ i
-  pub within : i ≤ end
-  pub kept : length now ≡ length l
-  pub moved : now ≡ moved_up l i end
-
-pub lifted_none : (l : List ℕ) (from end : ℕ) → from ≤ end → Lifted l from end l end
-unfolding moved_up
-lifted_none l from end h =
-    record {
-      above = h;
-      within = omega arith;
-      kept = refl;
-      moved = sym (ap (over l (end + pair_bytes)) (slice_empty end l) ∙ over_none l (end + pair_bytes));
-    }
-
-one_lifted : (l : List ℕ) (j end : ℕ) → j < end → end + pair_bytes ≤ length l
-    → set (moved_up l (suc j) end) (j + pair_bytes) (byte (moved_up l (suc j) end) j) ≡ moved_up l j end
-unfolding moved_up
-one_lifted l j end h b =
-    let x : List ℕ = slice (suc j) end l in
-    let up : suc j + pair_bytes ≡ suc (j + pair_bytes) = suc-add j pair_bytes in
-    let same : byte (over l (suc j + pair_bytes) x) j ≡ byte l j = before_over l j (suc j + pair_bytes) x 0 (omega arith) (omega arith) in
-    let long : length x ≡ end - suc j = length-slice (suc j) end l (omega arith) in
-    ap (set (over l (suc j + pair_bytes) x) (j + pair_bytes)) same
-    ∙ ap (λ p. set (over l p x) (j + pair_bytes) (byte l j)) up
-    ∙ over_first l (j + pair_bytes) (byte l j) x (omega arith)
-    ∙ ap (over l (j + pair_bytes)) (sym (slice-cons j end l 0 h (omega arith)))
-
-pub lifted_more : (l : List ℕ) (from end : ℕ) (now : List ℕ) (i : ℕ) → end + pair_bytes ≤ length l → from < i → Lifted l from end now i
-    → Lifted l from end (set now (i - 1 + pair_bytes) (byte now (i - 1))) (i - 1)
-lifted_more l from end now i b h u =
-    let j : ℕ = i - 1 in
-    let e : i ≡ suc j = omega arith in
-    let moved : set now (j + pair_bytes) (byte now j) ≡ moved_up l j end =
-    ap (λ n. set n (j + pair_bytes) (byte n j)) (u.moved ∙ ap (λ k. moved_up l k end) e) ∙ one_lifted l j end (omega arith) b in
-    record {
-      above = omega arith;
-      within = omega arith;
-      kept = ap length moved ∙ length-moved_up l j end (omega arith) b;
-      moved = moved;
-    }
-
-pub lifted_all : (l : List ℕ) (from end : ℕ) (now : List ℕ) (i : ℕ) → i ≤ from → Lifted l from end now i → now ≡ moved_up l from end
-lifted_all l from end now i h u = let e : i ≡ from = omega arith in u.moved ∙ ap (λ k. moved_up l k end) e
+-- what the library's method leaves
+pub copied_up : (l now : List ℕ) (from end : ℕ) → from ≤ end → end + pair_bytes ≤ length l → now ≡ copy_within l from end (from + pair_bytes)
+    → now ≡ moved_up l from end
+unfolding moved_up over
+copied_up l now from end h b e =
+    let much : from + (end - from) ≡ end = omega arith in
+    let part : slice from end l ≡ take (end - from) (drop from l) = ap (λ k. drop from (take k l)) (sym much) ∙ drop-take from (end - from) l in
+    let long : length (slice from end l) ≡ end - from = length-slice from end l (omega arith) in
+    e
+    ∙ append_assoc (take (from + pair_bytes) l) (take (end - from) (drop from l)) (drop (from + pair_bytes + (end - from)) l)
+    ∙ ap₂ (λ x n. take (from + pair_bytes) l ++ (x ++ drop (from + pair_bytes + n) l)) (sym part) (sym long)
 
 -- ---- the pair before them
 

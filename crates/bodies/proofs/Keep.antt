@@ -21,9 +21,6 @@ use Rattle.bodies.proofs.KeepSound.{counts_room}
 
 -- ---- the test
 
-pub within_fits : (e : Excess) (count limit : ℕ) → e ≡ Within → ltb count limit ≡ one_fits e count limit
-within_fits e count limit p = ap (λ x. one_fits x count limit) (sym p)
-
 -- a count that has room is below its limit
 pub room_below : (e : Excess) (count limit : ℕ) (b : Bool) → b ≡ one_fits e count limit → not b ≡ false → count < limit
 room_below Within count limit b e t = ltb-true count limit (sym e ∙ not_false b t)

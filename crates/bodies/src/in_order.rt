@@ -2,7 +2,7 @@
 ghost use Rattle.std.specs.Prelude.{◌≡◌, ◌+◌, ◌*◌, ◌≤◌, length};
 ghost use Rattle.rules.specs.Limits.{pair_bytes};
 ghost use Rattle.bodies.specs.Keeping.{with_pair};
-ghost use Rattle.bodies.specs.InOrder.{place_of, moved_up};
+ghost use Rattle.bodies.specs.InOrder.{place_of};
 
 use reader::limits::PAIR_BYTES;
 
@@ -11,26 +11,12 @@ fn place_of(s: &[u8], at: usize, count: usize, variable: u8) -> usize
     requires { at + pair_bytes * count ≤ length s.now }
     ensures { (result ≡ place_of s.now at count variable) × (result ≤ count) }
 {
-    let mut i = 0;
-    while i < count {
+    for i in 0..count {
         if variable < s[at + PAIR_BYTES * i] {
             return i;
         }
-        i += 1;
     }
-    i
-}
-
-// Moves the bytes from a place up to an end one pair further, the last first.
-fn move_up(s: &mut [u8], from: usize, end: usize)
-    requires { (from ≤ end) × (end + pair_bytes ≤ length s.old) }
-    ensures { (s.new ≡ moved_up s.old from end) × (length s.new ≡ length s.old) }
-{
-    let mut i = end;
-    while from < i {
-        i -= 1;
-        s[i + PAIR_BYTES] = s[i];
-    }
+    count
 }
 
 // Puts a pair in order into the count pairs from place at on; so many bytes behind them move up.
@@ -39,7 +25,8 @@ pub fn insert_pair(s: &mut [u8], at: usize, count: usize, behind: usize, variabl
     ensures { s.new ≡ with_pair s.old at count behind (record { variable = variable; value = value }) }
 {
     let from = at + PAIR_BYTES * place_of(s, at, count, variable);
-    move_up(s, from, at + PAIR_BYTES * count + behind);
+    let end = at + PAIR_BYTES * count + behind;
+    s.copy_within(from..end, from + PAIR_BYTES);
     s[from] = variable;
     s[from + 1] = value;
 }

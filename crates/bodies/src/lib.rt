@@ -10,10 +10,8 @@ ghost use Rattle.bodies.specs.Keeping.{Sound, keeps, nothing_kept, one_fits, exc
 
 use reader::limits::{COUNT_BYTES, MAX_ACTIONS, MAX_GOALS, MAX_PAIRS, MAX_VARIABLES, PAIR_BYTES};
 
-const LARGEST_BYTE: u8 = 255;
-
 // Which limit a text has gone beyond, if any. From then on nothing more is kept, since nothing more can change the verdict.
-#[derive(Clone, Copy)]
+#[derive(Clone, Copy, PartialEq, Eq)]
 pub enum Excess {
     Within,
     Lengths,
@@ -55,21 +53,17 @@ pub fn nothing_kept() -> Kept
 fn one_fits(excess: Excess, count: usize, limit: usize) -> bool
     ensures { result ≡ one_fits excess count limit }
 {
-    match excess {
-        Excess::Within => count < limit,
-        Excess::Lengths => false,
-        Excess::Actions => false,
-    }
+    excess == Excess::Within && count < limit
 }
 
 // The first limit that was gone beyond stays; where there is none, it is this one.
 fn excess_with(first: Excess, excess: Excess) -> Excess
     ensures { result ≡ excess_with first excess }
 {
-    match first {
-        Excess::Within => excess,
-        Excess::Lengths => first,
-        Excess::Actions => first,
+    if first == Excess::Within {
+        excess
+    } else {
+        first
     }
 }
 
@@ -79,16 +73,9 @@ fn no_more(kept: Kept, excess: Excess) -> Kept
     ensures value { result ≡ no_more excess kept }
     ensures sound { Sound result }
 {
-    let first = kept.excess;
     Kept {
-        sizes: kept.sizes,
-        starts: kept.starts,
-        goals: kept.goals,
-        actions: kept.actions,
-        bytes: kept.bytes,
-        preconditions: kept.preconditions,
-        effects: kept.effects,
-        excess: excess_with(first, excess),
+        excess: excess_with(kept.excess, excess),
+        ..kept
     }
 }
 
@@ -96,10 +83,7 @@ fn no_more(kept: Kept, excess: Excess) -> Kept
 fn as_byte(m: usize) -> u8
     ensures { result ≡ as_byte m }
 {
-    if m < LARGEST_BYTE as usize {
-        return m as u8;
-    }
-    LARGEST_BYTE
+    u8::try_from(m).unwrap_or(u8::MAX)
 }
 
 // The domain size of one more variable.
@@ -109,14 +93,14 @@ pub fn keep_size(kept: Kept, sizes: &mut [u8], size: usize) -> Kept
     ensures sound { Sound result }
 {
     let at = kept.sizes;
-    let excess = kept.excess;
-    if !one_fits(excess, at, MAX_VARIABLES) {
+    if !one_fits(kept.excess, at, MAX_VARIABLES) {
         return no_more(kept, Excess::Lengths);
     }
     sizes[at] = as_byte(size);
-    let mut next = kept;
-    next.sizes = at + 1;
-    next
+    Kept {
+        sizes: at + 1,
+        ..kept
+    }
 }
 
 // The start value of one more variable.
@@ -126,14 +110,14 @@ pub fn keep_start(kept: Kept, start: &mut [u8], value: usize) -> Kept
     ensures sound { Sound result }
 {
     let at = kept.starts;
-    let excess = kept.excess;
-    if !one_fits(excess, at, MAX_VARIABLES) {
+    if !one_fits(kept.excess, at, MAX_VARIABLES) {
         return no_more(kept, Excess::Lengths);
     }
     start[at] = as_byte(value);
-    let mut next = kept;
-    next.starts = at + 1;
-    next
+    Kept {
+        starts: at + 1,
+        ..kept
+    }
 }
 
 // One more goal pair, in order.
@@ -143,14 +127,14 @@ pub fn keep_goal(kept: Kept, goal: &mut [u8], variable: usize, value: usize) -> 
     ensures sound { Sound result }
 {
     let count = kept.goals;
-    let excess = kept.excess;
-    if !one_fits(excess, count, MAX_GOALS) {
+    if !one_fits(kept.excess, count, MAX_GOALS) {
         return no_more(kept, Excess::Lengths);
     }
     in_order::insert_pair(goal, 0, count, 0, as_byte(variable), as_byte(value));
-    let mut next = kept;
-    next.goals = count + 1;
-    next
+    Kept {
+        goals: count + 1,
+        ..kept
+    }
 }
 
 // One more precondition of the action that is being read, in order; its effects move up.
@@ -160,8 +144,7 @@ pub fn keep_precondition(kept: Kept, actions: &mut [u8], variable: usize, value:
     ensures sound { Sound result }
 {
     let count = kept.preconditions;
-    let excess = kept.excess;
-    if !one_fits(excess, count, MAX_PAIRS) {
+    if !one_fits(kept.excess, count, MAX_PAIRS) {
         return no_more(kept, Excess::Actions);
     }
     let at = kept.bytes + COUNT_BYTES;
@@ -174,9 +157,10 @@ pub fn keep_precondition(kept: Kept, actions: &mut [u8], variable: usize, value:
         as_byte(variable),
         as_byte(value),
     );
-    let mut next = kept;
-    next.preconditions = count + 1;
-    next
+    Kept {
+        preconditions: count + 1,
+        ..kept
+    }
 }
 
 // One more effect of the action that is being read, in order.
@@ -186,15 +170,15 @@ pub fn keep_effect(kept: Kept, actions: &mut [u8], variable: usize, value: usize
     ensures sound { Sound result }
 {
     let count = kept.effects;
-    let excess = kept.excess;
-    if !one_fits(excess, count, MAX_PAIRS) {
+    if !one_fits(kept.excess, count, MAX_PAIRS) {
         return no_more(kept, Excess::Actions);
     }
     let at = kept.bytes + COUNT_BYTES + PAIR_BYTES * kept.preconditions;
     in_order::insert_pair(actions, at, count, 0, as_byte(variable), as_byte(value));
-    let mut next = kept;
-    next.effects = count + 1;
-    next
+    Kept {
+        effects: count + 1,
+        ..kept
+    }
 }
 
 // The action's pairs are all read: its two counts are written before them, and it is the next action.
@@ -204,18 +188,18 @@ pub fn keep_action(kept: Kept, actions: &mut [u8]) -> Kept
     ensures sound { Sound result }
 {
     let count = kept.actions;
-    let excess = kept.excess;
-    if !one_fits(excess, count, MAX_ACTIONS) {
+    if !one_fits(kept.excess, count, MAX_ACTIONS) {
         return no_more(kept, Excess::Actions);
     }
     let at = kept.bytes;
     actions[at] = kept.preconditions as u8;
     actions[at + 1] = kept.effects as u8;
     let pairs = kept.preconditions + kept.effects;
-    let mut next = kept;
-    next.actions = count + 1;
-    next.bytes = at + (COUNT_BYTES + PAIR_BYTES * pairs);
-    next.preconditions = 0;
-    next.effects = 0;
-    next
+    Kept {
+        actions: count + 1,
+        bytes: at + (COUNT_BYTES + PAIR_BYTES * pairs),
+        preconditions: 0,
+        effects: 0,
+        ..kept
+    }
 }
