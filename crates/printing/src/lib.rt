@@ -46,12 +46,6 @@ fn put_ended(out: &mut [u8], at: usize, m: usize, end: u8) -> usize
     digits::put_byte(out, place, end)
 }
 
-fn wide(entry: u32) -> usize
-    ensures { result ≡ entry }
-{
-    entry as usize
-}
-
 // Writes a line for each entry, and answers how many bytes that are.
 pub fn schedule_text(out: &mut [u8], entries: &[u32]) -> usize
     requires { ended_room * length entries.now ≤ length out.old }
@@ -59,10 +53,8 @@ pub fn schedule_text(out: &mut [u8], entries: &[u32]) -> usize
     ensures behind { result ≡ length (schedule_text entries.now) }
 {
     let mut at = 0;
-    let mut i = 0;
-    while i < entries.len() {
-        at = put_ended(out, at, wide(entries[i]), b'\n');
-        i += 1;
+    for &entry in entries {
+        at = put_ended(out, at, entry as usize, b'\n');
     }
     at
 }

@@ -1,3 +1,2 @@
 -- What is proved of the numbers and details of refusals.
-pub mod Arms
 pub mod OneAnswer

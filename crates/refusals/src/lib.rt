@@ -6,66 +6,48 @@ ghost use Rattle.rules.specs.Answers.{answer_of};
 
 use rules::Refusal;
 
+// The number and the detail of a refusal; the detail is 0 where it has none.
+fn answer_of(why: Refusal) -> (usize, usize)
+    ensures { (result.0 ≡ (answer_of why).number) × (result.1 ≡ (answer_of why).detail) }
+{
+    match why {
+        Refusal::FileLength => (1, 0),
+        Refusal::ContentsRow(row) => (2, row),
+        Refusal::BodyLength => (3, 0),
+        Refusal::DomainSize(x) => (4, x),
+        Refusal::StartValue(x) => (5, x),
+        Refusal::GoalPair(i) => (6, i),
+        Refusal::ActionAtFault(a) => (7, a),
+        Refusal::Horizon => (8, 0),
+        Refusal::ClauseNumber => (9, 0),
+        Refusal::Room => (10, 0),
+        Refusal::Grammar(i) => (11, i),
+        Refusal::OutOfPlace(i) => (12, i),
+        Refusal::OverN(i) => (13, i),
+        Refusal::GivenBefore(i) => (14, i),
+        Refusal::Unfinished => (15, 0),
+        Refusal::UnmetClause(c) => (17, c),
+        Refusal::Unsatisfiable => (18, 0),
+        Refusal::Unknown => (19, 0),
+        Refusal::EntryOverA(t) => (20, t),
+        Refusal::DoesNotApply(t) => (21, t),
+        Refusal::GoalUnmet(i) => (22, i),
+        Refusal::AgainstFormat(line) => (30, line),
+        Refusal::AxiomOrCondition(line) => (31, line),
+        Refusal::OtherVersion(line) => (32, line),
+    }
+}
+
 // The number of a refusal.
 pub fn number_of(why: Refusal) -> usize
     ensures { result ≡ (answer_of why).number }
 {
-    match why {
-        Refusal::FileLength => 1,
-        Refusal::ContentsRow(_) => 2,
-        Refusal::BodyLength => 3,
-        Refusal::DomainSize(_) => 4,
-        Refusal::StartValue(_) => 5,
-        Refusal::GoalPair(_) => 6,
-        Refusal::ActionAtFault(_) => 7,
-        Refusal::Horizon => 8,
-        Refusal::ClauseNumber => 9,
-        Refusal::Room => 10,
-        Refusal::Grammar(_) => 11,
-        Refusal::OutOfPlace(_) => 12,
-        Refusal::OverN(_) => 13,
-        Refusal::GivenBefore(_) => 14,
-        Refusal::Unfinished => 15,
-        Refusal::UnmetClause(_) => 17,
-        Refusal::Unsatisfiable => 18,
-        Refusal::Unknown => 19,
-        Refusal::EntryOverA(_) => 20,
-        Refusal::DoesNotApply(_) => 21,
-        Refusal::GoalUnmet(_) => 22,
-        Refusal::AgainstFormat(_) => 30,
-        Refusal::AxiomOrCondition(_) => 31,
-        Refusal::OtherVersion(_) => 32,
-    }
+    answer_of(why).0
 }
 
 // The detail of a refusal, 0 where it has none.
 pub fn detail_of(why: Refusal) -> usize
     ensures { result ≡ (answer_of why).detail }
 {
-    match why {
-        Refusal::FileLength => 0,
-        Refusal::ContentsRow(row) => row,
-        Refusal::BodyLength => 0,
-        Refusal::DomainSize(x) => x,
-        Refusal::StartValue(x) => x,
-        Refusal::GoalPair(i) => i,
-        Refusal::ActionAtFault(a) => a,
-        Refusal::Horizon => 0,
-        Refusal::ClauseNumber => 0,
-        Refusal::Room => 0,
-        Refusal::Grammar(i) => i,
-        Refusal::OutOfPlace(i) => i,
-        Refusal::OverN(i) => i,
-        Refusal::GivenBefore(i) => i,
-        Refusal::Unfinished => 0,
-        Refusal::UnmetClause(c) => c,
-        Refusal::Unsatisfiable => 0,
-        Refusal::Unknown => 0,
-        Refusal::EntryOverA(t) => t,
-        Refusal::DoesNotApply(t) => t,
-        Refusal::GoalUnmet(i) => i,
-        Refusal::AgainstFormat(line) => line,
-        Refusal::AxiomOrCondition(line) => line,
-        Refusal::OtherVersion(line) => line,
-    }
+    answer_of(why).1
 }
