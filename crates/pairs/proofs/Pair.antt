@@ -17,9 +17,6 @@ use Rattle.pairs.proofs.Halving.{Bracket, bracket_start, bracket_end}
 
 -- ---- how many
 
-pub no_pairs : (m : ℕ) → m ≡ 0 → 0 ≡ pairs_below m
-no_pairs m e = rw e refl
-
 pub product_fits : (m : ℕ) → m ≤ max_actions → Fits w64 (m * (m - 1))
 product_fits m h =
     let l : m - 1 ≤ max_actions = omega arith in

@@ -18,10 +18,7 @@ pub fn pairs_below(m: usize) -> usize
     requires { m ≤ max_actions }
     ensures { result ≡ pairs_below m }
 {
-    if m == 0 {
-        return 0;
-    }
-    m * (m - 1) / 2
+    m * m.saturating_sub(1) / 2
 }
 
 // How many of them have a first number below i.
@@ -48,6 +45,7 @@ pub fn pair_of(m: usize, r: usize) -> RisingPair
 {
     let mut lo = 0;
     let mut hi = m;
+    // Bisection: each turn halves the stretch between the two places.
     while 1 < hi - lo {
         let width = hi - lo;
         let mid = lo + width / 2;
