@@ -8,6 +8,8 @@ ghost use Rattle.rules.specs.File.{action_in, pairs_at};
 ghost use Rattle.rules.specs.Walk.{holds, set_pairs};
 ghost use Rattle.walk.specs.Lent.{pair_at, goal_in, first_unmet, start_values};
 
+use std::array;
+
 const MAX_VARIABLES: usize = 96;
 
 const COUNT_BYTES: usize = 2;
@@ -24,11 +26,9 @@ pub struct State {
 pub fn start(body: &[u8]) -> State
     ensures { result.values ≡ start_values body.now }
 {
-    let mut values = [0; MAX_VARIABLES];
-    for (x, value) in values.iter_mut().enumerate() {
-        *value = lent_bytes::byte_at(body, x);
+    State {
+        values: array::from_fn(|x| lent_bytes::byte_at(body, x)),
     }
-    State { values }
 }
 
 // The pair at a place holds.
