@@ -8,6 +8,3 @@ loop-past-init c = search (rules, count_start)
 
 pub loop-past-preserved : goal.loop-past-preserved
 loop-past-preserved c = search (rules, count_more)
-
-pub returns : goal.returns
-returns c = search (rules, count_end)

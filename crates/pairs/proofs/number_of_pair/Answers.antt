@@ -6,6 +6,3 @@ use Rattle.pairs.proofs.number_of_pair.Goals as goal
 
 pub overflow_add-result : goal.overflow_add-result
 overflow_add-result c = search (rules, number_fits)
-
-pub returns : goal.returns
-returns c = search (rules, is_number_lem)

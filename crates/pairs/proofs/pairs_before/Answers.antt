@@ -4,8 +4,5 @@ use borrow.Author.Rules.{rules}
 use Rattle.pairs.proofs.Pair.{counted, doubled_fits}
 use Rattle.pairs.proofs.pairs_before.Goals as goal
 
-pub overflow_mul-result-2 : goal.overflow_mul-result-2
-overflow_mul-result-2 c = search (rules, doubled_fits)
-
 pub returns : goal.returns
 returns c = search (rules, counted)

@@ -8,6 +8,3 @@ loop-done-init c = search (rules, count_none)
 
 pub loop-done-preserved : goal.loop-done-preserved
 loop-done-preserved c = search (rules, count_on)
-
-pub returns : goal.returns
-returns c = search (rules, count_all)

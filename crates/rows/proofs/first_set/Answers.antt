@@ -3,9 +3,6 @@ use borrow.Author.Rules.{rules}
 use Rattle.rows.proofs.StretchLaws.{none_none, none_on, first_here, first_nowhere}
 use Rattle.rows.proofs.first_set.Goals as goal
 
-pub loop-done-init : goal.loop-done-init
-loop-done-init c = search (rules, none_none)
-
 pub returns-then-lowest-size : goal.returns-then-lowest-size
 returns-then-lowest-size c = search (rules, first_here)
 

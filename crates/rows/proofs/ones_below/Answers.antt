@@ -4,8 +4,5 @@ use borrow.Author.Rules.{rules}
 use Rattle.rows.proofs.StretchLaws.{ones_fit, ones_are, ones_few}
 use Rattle.rows.proofs.ones_below.Goals as goal
 
-pub overflow_cast-result : goal.overflow_cast-result
-overflow_cast-result c = search (rules, ones_fit)
-
 pub returns : goal.returns
 returns c = search (rules, ones_are, ones_few)

@@ -3,12 +3,6 @@ use borrow.Author.Rules.{rules}
 use Rattle.lent_bytes.proofs.WordLaws.{room_tenfold, room_next, value_grows, value_on, value_done}
 use Rattle.lent_bytes.proofs.words.value.Goals as goal
 
-pub overflow_mul-sum : goal.overflow_mul-sum
-overflow_mul-sum c = search (rules, room_tenfold)
-
-pub overflow_add-sum : goal.overflow_add-sum
-overflow_add-sum c = search (rules, room_next)
-
 pub loop-b-preserved : goal.loop-b-preserved
 loop-b-preserved c = search (rules, value_grows, value_on)
 
