@@ -29,9 +29,6 @@ room_below Actions count limit b e t = clash (sym e ∙ not_false b t) refl
 
 -- ---- nothing more is kept
 
-pub no_more-is : (k : Kept) (x excess : Excess) → x ≡ excess_with k.excess excess → beyond x k ≡ no_more excess k
-no_more-is k x excess e = ap (λ x. beyond x k) e
-
 none_more : (k : Kept) (s : List ℕ) (e : Excess) (count limit : ℕ) (excess : Excess) (next : Keeping) → k.excess ≡ e → one_fits e count limit ≡ false
     → keeps (beyond (excess_with e excess) k) s ≡ kept e (ltb count limit) excess (keeps k s) next
 none_more k s Within count limit excess next p h = rw h

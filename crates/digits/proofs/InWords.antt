@@ -65,10 +65,6 @@ number_fits m high h l =
     let few : byte_values ^ length (decimal m) ≤ byte_values ^ 7 = pow-le-pow_right {n = byte_values} (lit< tt) (decimal_few 6 m h) in
     omega (arith, word_fits (decimal m) high byte_values (decimal_bytes m) l)
 
--- the text is read back, and what is above it follows
-pub number_back : (m more high : ℕ) → low_bytes (length (decimal m) + more) (in_word (decimal m) high) ≡ decimal m ++ low_bytes more high
-number_back m more high = read_back (decimal m) more high (decimal_bytes m)
-
 -- ---- stores
 
 -- a word's bytes as the library's method gives them, from the lowest up

@@ -105,6 +105,3 @@ wrote_more l m m' at e e' x y p q =
       written = q.written ∙ rw (p.written, p.behind) (over_over l at x y);
       behind = q.behind ∙ rw (p.behind, length-append x y) (omega arith);
     }
-
-pub wrote_length : (l m : List ℕ) (at e : ℕ) (x : List ℕ) → Wrote l at x m e → e ≤ length l → length m ≡ length l
-wrote_length l m at e x w h = ap length w.written ∙ length_over l at x (omega arith)

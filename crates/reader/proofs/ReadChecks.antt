@@ -6,7 +6,7 @@ use mathlib.Core.Bool.{Bool, true, false, not, ◌&&◌}
 use mathlib.Core.List.{List, [], ◌∷◌}
 use Prim.Native.Nat.{ℕ, zero, suc, ◌+◌, ◌-◌, ◌*◌, ◌/◌, ◌%◌, ◌≤◌, ◌<◌}
 use native.Mathlib.Omega.{arith}
-use borrow.Author.Tests.{eq-eqb, ne_eqb, le-leb, lt-leb, lt-ltb, le-ltb}
+use borrow.Author.Tests.{le-leb, lt-leb, lt-ltb, le-ltb}
 use Rattle.std.specs.Prelude.{sum_by}
 use Rattle.std.proofs.lemmas.List.Sums.{sum_by-cons}
 use lib.Dec.{eqb, leb, ltb}
@@ -29,31 +29,8 @@ ltb_not a b = ⊎_elim (λ h. rw (lt-ltb a b h, lt-leb b a h)) (λ h. rw (le-ltb
 
 -- ---- lengths of bodies
 
-module _ (n starts goals : ℕ) where
-  abbrev pub fit : Bool
-  fit = leb 1 n && leb n max_variables && eqb starts n && eqb (goals % pair_bytes) 0 && leb (goals / pair_bytes) max_goals
-
-  pub no_variable : n < 1 → false ≡ fit
-  no_variable h = rw (lt-leb 1 n h)
-
-  module _ (h₁ : 1 ≤ n) where
-    pub many_variables : max_variables < n → false ≡ fit
-    many_variables h = rw (le-leb 1 n h₁, lt-leb n max_variables h)
-
-    module _ (h₂ : n ≤ max_variables) where
-      pub other_starts : (starts ≡ n → ⊥) → false ≡ fit
-      other_starts h = rw (le-leb 1 n h₁, le-leb n max_variables h₂, ne_eqb starts n h)
-
-      module _ (h₃ : starts ≡ n) where
-        pub odd_goals : (goals % pair_bytes ≡ 0 → ⊥) → false ≡ fit
-        odd_goals h = rw (le-leb 1 n h₁, le-leb n max_variables h₂, eq-eqb starts n h₃, ne_eqb (goals % pair_bytes) 0 h)
-
-        pub even_goals : goals % pair_bytes ≡ 0 → leb goals (pair_bytes * max_goals) ≡ fit
-        even_goals h =
-            rw (le-leb 1 n h₁, le-leb n max_variables h₂, eq-eqb starts n h₃, eq-eqb (goals % pair_bytes) 0 h)
-            (⊎_elim (λ l. rw (lt-leb goals (pair_bytes * max_goals) l, lt-leb (goals / pair_bytes) max_goals (omega arith)))
-            (λ l. rw (le-leb goals (pair_bytes * max_goals) l, le-leb (goals / pair_bytes) max_goals (omega arith)))
-            (below_or (pair_bytes * max_goals) goals))
+abbrev pub fit : (n starts goals : ℕ) → Bool
+fit n starts goals = leb 1 n && leb n max_variables && eqb starts n && eqb (goals % pair_bytes) 0 && leb (goals / pair_bytes) max_goals
 
 -- ---- sizes and start values
 

@@ -23,11 +23,6 @@ use Rattle.rules.proofs.Contents.{accepted_contents, body_within}
 use Rattle.rules.proofs.Loops.{found_at, judge_found, judge_none}
 use Rattle.reader.specs.Stretches.{Stretch, start_asked}
 
-pub due_later : (file : List ℕ) (row a b : ℕ) → (row ≡ 0 → ⊥)
-    → a ≡ body_start file (row - 1) → b ≡ body_length file (row - 1) → a + b ≡ due_start file row
-due_later file zero a b h ea eb = absurd (h refl)
-due_later file (suc r) a b h ea eb = let e : suc r - 1 ≡ r = omega arith in rw (ea, eb, e)
-
 -- ---- a row; a is where it starts, b where it has to, e where the next would have to
 
 module _ (file : List ℕ) (row a b : ℕ) (is-start : a ≡ body_start file row) (is-due : b ≡ due_start file row) where

@@ -13,19 +13,11 @@ use crate::limits::{MAX_DOMAIN, MAX_GOALS, MAX_PAIRS, MAX_VARIABLES, PAIR_BYTES}
 pub(crate) fn lengths_fit(n: usize, starts: usize, goals: usize) -> bool
     ensures { result ≡ (leb 1 n && leb n max_variables && eqb starts n && eqb (goals % pair_bytes) 0 && leb (goals / pair_bytes) max_goals) }
 {
-    if n < 1 {
-        return false;
-    }
-    if MAX_VARIABLES < n {
-        return false;
-    }
-    if starts != n {
-        return false;
-    }
-    if goals % PAIR_BYTES != 0 {
-        return false;
-    }
-    goals <= PAIR_BYTES * MAX_GOALS
+    1 <= n
+        && n <= MAX_VARIABLES
+        && starts == n
+        && goals % PAIR_BYTES == 0
+        && goals / PAIR_BYTES <= MAX_GOALS
 }
 
 // The size of variable x is outside 1..64.

@@ -7,7 +7,7 @@ use mathlib.Core.List.{List, ◌++◌}
 use Prim.Native.Nat.{ℕ, zero, suc, ◌+◌, ◌-◌, ◌*◌, ◌/◌, ◌%◌, ◌^◌, ◌≤◌, ◌<◌}
 use native.Mathlib.Omega.{arith}
 use native.Mathlib.Numerals.{one-add}
-use native.Mathlib.Nat.{pow-suc, mul_assoc, one-mul, zero-mul, zero-div, le_trans, mul-le-mul_right, div-mul-le_self, mod-le}
+use native.Mathlib.Nat.{pow-suc, mul_assoc, one-mul, zero-mul, le_trans, mul-le-mul_right, div-mul-le_self, mod-le}
 use borrow.Author.Tests.{eq-eqb, ne_eqb, eqb-true, eqb-false}
 use lib.Dec.{eqb}
 use lib.Bits.{bit_and, bit_or, and_high, or_add_and}
@@ -63,9 +63,6 @@ digit_kept w (suc i) (suc j) b h =
     ∙ ap (λ x. digit x i) (ap (λ x. x / 2) (with_bit-suc w j b) ∙ omega arith)
     ∙ digit_kept (w / 2) i j b (λ e. h (ap suc e))
     ∙ sym (digit_suc w i)
-
-pub zero_digit : (j : ℕ) → digit 0 j ≡ 0
-zero_digit j = omega (arith, zero-div (2 ^ j))
 
 pub digit_bit : (w j : ℕ) (b : Bool) → digit w j ≡ one b → bit_of w j ≡ b
 digit_bit w j true e = eq-eqb _ _ e

@@ -137,10 +137,6 @@ unfolding sum_to
 sum_to-parts n zero f = ap (λ k. sum_to k f) (add-zero n) ∙ omega arith
 sum_to-parts n (suc m) f = ap (λ k. sum_to k f) (add-suc n m) ∙ omega (arith, sum_to-parts n m f)
 
-pub word_from : (unnamed : Bool) (given is_true : List ℕ) (place g t w : ℕ) → g ≡ get_or given (place / word_bits) 0 → t ≡ get_or is_true (place / word_bits) 0
-    → w ≡ counted_word unnamed g t → w / 2 ^ (place % word_bits) ≡ word_with unnamed given is_true place / 2 ^ (place % word_bits)
-word_from unnamed given is_true place g t w hg ht e = ap (λ w. w / 2 ^ (place % word_bits)) (e ∙ ap₂ (counted_word unnamed) hg ht)
-
 pub word_behind : (row : List ℕ) (at : ℕ) → length row ≤ at → 0 ≡ get_or row at 0
 word_behind row at h = sym (get_or-eq_default row 0 h)
 

@@ -20,7 +20,6 @@ use Rattle.rules.specs.File.{byte, pairs_at, action_in}
 use Rattle.rules.specs.Walk.{State, holds, set_pairs}
 use Rattle.rules.proofs.Bools.{below_or, not_false, same_truth}
 use Rattle.rules.proofs.Counting.{length-table, get_or-table, first_is, first_none, none_at, none_test, every_get_or, every_by}
-use Rattle.rules.proofs.Moves.{length-set_pairs}
 use Rattle.walk.specs.Lent.{pair_at, start_values, first_unmet}
 
 -- ---- pairs one after the other
@@ -33,9 +32,6 @@ pub set_more : (σ : State) (ps : List Pair) (p : Pair) → set_pairs σ (ps ++ 
 unfolding set_pairs
 set_more σ [] p = refl
 set_more σ (q ∷ ps) p = set_more (set σ q.variable q.value) ps p
-
-pub set_keeps : (σ τ : State) (ps : List Pair) → τ ≡ set_pairs σ ps → length τ ≡ length σ
-set_keeps σ τ ps e = ap length e ∙ length-set_pairs σ ps
 
 -- no pair is set yet, and one more is
 pub set_none : (σ : State) (s : List ℕ) (at : ℕ) → σ ≡ set_pairs σ (pairs_at s at 0)
@@ -69,16 +65,6 @@ pair_of s at count i l = get_or-table count (λ i. pair_at s (at + pair_bytes * 
 -- the pairs before i hold
 abbrev pub Met : State → List ℕ → ℕ → ℕ → Type 0
 Met σ s at i = (j : ℕ) → j < i → holds σ (pair_at s (at + pair_bytes * j)) ≡ true
-
-pub met_none : (σ : State) (s : List ℕ) (at : ℕ) → Met σ s at 0
-met_none σ s at j l = absurd (omega arith)
-
--- b is what was found of pair i
-pub met_next : (σ : State) (s : List ℕ) (at i : ℕ) (b : Bool) → Met σ s at i → b ≡ holds σ (pair_at s (at + pair_bytes * i)) → not b ≡ false
-    → Met σ s at (i + 1)
-met_next σ s at i b h e t j l =
-    ⊎_elim (λ c. h j c)
-    (λ c. let q : j ≡ i = omega arith in ap (λ k. holds σ (pair_at s (at + pair_bytes * k))) q ∙ sym e ∙ not_false b t) (below_or j i)
 
 met_each : (σ : State) (s : List ℕ) (at count i : ℕ) → i ≤ count → Met σ s at i → (j : ℕ) → j < i → unmet σ (pairs_at s at count) j ≡ false
 met_each σ s at count i l h j b = rw (pair_of s at count j (omega arith), h j b)

@@ -1,15 +1,12 @@
 -- `bodies::keep_start` meets its contract.
 -- Assumes nothing.
 use borrow.Author.Rules.{rules}
-use Rattle.bodies.proofs.KeepSound.{sound_start, count_room}
+use Rattle.bodies.proofs.KeepSound.{sound_start}
 use Rattle.bodies.proofs.Keep.{start_not_kept, start_kept, room_below}
 use Rattle.bodies.proofs.keep_start.Goals as goal
 
 pub returns-then-not-one_fits : goal.returns-then-not-one_fits
 returns-then-not-one_fits c = search (rules, start_not_kept)
-
-pub bounds-start-at : goal.bounds-start-at
-bounds-start-at c = search (rules, count_room, room_below)
 
 pub returns : goal.returns
 returns c = search (rules, start_kept, sound_start, room_below)

@@ -1,6 +1,6 @@
 -- Assumes nothing.
 use borrow.Author.Rules.{rules}
-use Rattle.digits.proofs.Writing.{count_start, count_more, count_end}
+use Rattle.digits.proofs.Writing.{count_start, count_more}
 use Rattle.digits.proofs.digit_count.Goals as goal
 
 pub loop-past-init : goal.loop-past-init

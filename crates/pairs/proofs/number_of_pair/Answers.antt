@@ -1,7 +1,7 @@
 -- `pairs::number_of_pair` meets its contract.
 -- Assumes nothing.
 use borrow.Author.Rules.{rules}
-use Rattle.pairs.proofs.Pair.{number_fits, is_number_lem}
+use Rattle.pairs.proofs.Pair.{number_fits}
 use Rattle.pairs.proofs.number_of_pair.Goals as goal
 
 pub overflow_add-result : goal.overflow_add-result

@@ -1,7 +1,7 @@
 -- Assumes nothing.
 use borrow.Author.Rules.{rules}
-use Rattle.pairs.proofs.Halving.{bracket_down, bracket_up, half_sooner}
-use Rattle.pairs.proofs.Pair.{pairs_start, begun_at, second_fits, pair_found}
+use Rattle.pairs.proofs.Halving.{half_sooner}
+use Rattle.pairs.proofs.Pair.{pairs_start, pair_found}
 use Rattle.pairs.proofs.pair_of.Goals as goal
 
 pub loop-hi-init : goal.loop-hi-init

@@ -1,7 +1,7 @@
 -- `pairs::pairs_before` meets its contract: under the bound on m the product fits.
 -- Assumes nothing.
 use borrow.Author.Rules.{rules}
-use Rattle.pairs.proofs.Pair.{counted, doubled_fits}
+use Rattle.pairs.proofs.Pair.{counted}
 use Rattle.pairs.proofs.pairs_before.Goals as goal
 
 pub returns : goal.returns

@@ -1,6 +1,6 @@
 -- Assumes nothing.
 use borrow.Author.Rules.{rules}
-use Rattle.rows.proofs.StretchLaws.{count_none, count_on, count_all}
+use Rattle.rows.proofs.StretchLaws.{count_none, count_on}
 use Rattle.rows.proofs.count_set.Goals as goal
 
 pub loop-done-init : goal.loop-done-init

@@ -1,6 +1,6 @@
 -- Assumes nothing.
 use borrow.Author.Rules.{rules}
-use Rattle.rows.proofs.StretchLaws.{none_none, none_on, first_here, first_nowhere}
+use Rattle.rows.proofs.StretchLaws.{none_on, first_here, first_nowhere}
 use Rattle.rows.proofs.first_set.Goals as goal
 
 pub returns-then-lowest-size : goal.returns-then-lowest-size

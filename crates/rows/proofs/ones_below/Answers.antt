@@ -1,7 +1,7 @@
 -- `ones_below` meets its contract.
 -- Assumes nothing.
 use borrow.Author.Rules.{rules}
-use Rattle.rows.proofs.StretchLaws.{ones_fit, ones_are, ones_few}
+use Rattle.rows.proofs.StretchLaws.{ones_are, ones_few}
 use Rattle.rows.proofs.ones_below.Goals as goal
 
 pub returns : goal.returns

@@ -1,6 +1,6 @@
 -- Assumes nothing.
 use borrow.Author.Rules.{rules}
-use Rattle.lent_bytes.proofs.WordLaws.{room_tenfold, room_next, value_grows, value_on, value_done}
+use Rattle.lent_bytes.proofs.WordLaws.{value_grows, value_on, value_done}
 use Rattle.lent_bytes.proofs.words.value.Goals as goal
 
 pub loop-b-preserved : goal.loop-b-preserved

@@ -1,6 +1,6 @@
 -- Assumes nothing.
 use borrow.Author.Rules.{rules}
-use Rattle.rules.proofs.Loops.{none_yet, none_more, found_at, none_at_all}
+use Rattle.rules.proofs.Loops.{none_yet, none_more, found_at}
 use Rattle.reader.proofs.ReadChecks.{fault_among}
 use Rattle.reader.proofs.checks.first_pair_at_fault.Goals as goal
 
@@ -12,6 +12,3 @@ returns-then-pair_at_fault c = search (rules, found_at, fault_among)
 
 pub loop-i-preserved : goal.loop-i-preserved
 loop-i-preserved c = search (rules, none_more, fault_among)
-
-pub returns : goal.returns
-returns c = search (rules, none_at_all)

@@ -1,6 +1,6 @@
 -- Assumes nothing.
 use borrow.Author.Rules.{rules}
-use Rattle.rules.proofs.Loops.{none_yet, none_more, found_at, none_at_all}
+use Rattle.rules.proofs.Loops.{none_yet, none_more, found_at}
 use Rattle.reader.proofs.checks.first_size_at_fault.Goals as goal
 
 pub loop-x-init : goal.loop-x-init
@@ -11,6 +11,3 @@ returns-then-size_at_fault c = search (rules, found_at)
 
 pub loop-x-preserved : goal.loop-x-preserved
 loop-x-preserved c = search (rules, none_more)
-
-pub returns : goal.returns
-returns c = search (rules, none_at_all)

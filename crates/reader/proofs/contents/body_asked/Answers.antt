@@ -1,8 +1,7 @@
 -- `body_asked` meets its contract.
 -- Assumes nothing.
 use borrow.Author.Rules.{rules}
-use native.Mathlib.Omega.{arith}
-use Rattle.reader.proofs.ReadContents.{contents_fine, none_refused, none_zero, none_above, one_asked}
+use Rattle.reader.proofs.ReadContents.{none_refused, none_zero, none_above, one_asked}
 use Rattle.reader.proofs.contents.body_asked.Goals as goal
 
 pub returns-in_default : goal.returns-in_default
@@ -13,9 +12,6 @@ returns-then-number-eq0 c = search (rules, none_zero)
 
 pub returns-then-number-gt-CONTENTS_ROWS : goal.returns-then-number-gt-CONTENTS_ROWS
 returns-then-number-gt-CONTENTS_ROWS c = search (rules, none_above)
-
-pub row_body-requires : goal.row_body-requires
-row_body-requires c = (search (rules, contents_fine), omega arith)
 
 pub returns : goal.returns
 returns c = search (rules, one_asked)

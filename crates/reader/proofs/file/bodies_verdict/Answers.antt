@@ -1,7 +1,7 @@
 -- `bodies_verdict` meets its contract.
 -- Assumes nothing.
 use borrow.Author.Rules.{rules}
-use Rattle.reader.proofs.ReadFile.{few_variables, as_many_starts, lengths_wrong, size_wrong, sum_wrong, start_wrong, goal_wrong, actions_last}
+use Rattle.reader.proofs.ReadFile.{lengths_wrong, size_wrong, sum_wrong, start_wrong, goal_wrong, actions_last}
 use Rattle.reader.proofs.file.bodies_verdict.Goals as goal
 
 pub returns-then-not-lengths_fit : goal.returns-then-not-lengths_fit
@@ -10,14 +10,8 @@ returns-then-not-lengths_fit c = search (rules, lengths_wrong)
 pub returns-then-size-n : goal.returns-then-size-n
 returns-then-size-n c = search (rules, size_wrong)
 
-pub sum_of_sizes-requires : goal.sum_of_sizes-requires
-sum_of_sizes-requires c = search (rules, few_variables)
-
 pub returns-then-sum_of_sizes-gt-MAX_VALUES : goal.returns-then-sum_of_sizes-gt-MAX_VALUES
 returns-then-sum_of_sizes-gt-MAX_VALUES c = search (rules, sum_wrong)
-
-pub first_start_at_fault-value-requires : goal.first_start_at_fault-value-requires
-first_start_at_fault-value-requires c = search (rules, as_many_starts)
 
 pub returns-then-value-n : goal.returns-then-value-n
 returns-then-value-n c = search (rules, start_wrong)
