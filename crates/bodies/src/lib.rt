@@ -86,7 +86,8 @@ fn as_byte(m: usize) -> u8
     u8::try_from(m).unwrap_or(u8::MAX)
 }
 
-// The domain size of one more variable.
+// The domain size of one more variable. What a start value shares with it is in the functions above: only the field and the body differ, and a field
+// cannot be a parameter.
 pub fn keep_size(kept: Kept, sizes: &mut [u8], size: usize) -> Kept
     requires { Sound kept × (max_variables ≤ length sizes.old) }
     ensures sizes_after { keeps result sizes.new ≡ keep_size size (keeps kept sizes.old) }

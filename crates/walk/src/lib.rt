@@ -10,6 +10,7 @@ ghost use Rattle.walk.specs.Lent.{pair_at, goal_in, first_unmet, start_values};
 
 use std::array;
 
+// These three stand in reader::limits too; to share them, the walk would have to stand on the whole reader.
 const MAX_VARIABLES: usize = 96;
 
 const COUNT_BYTES: usize = 2;
