@@ -15,7 +15,7 @@ pub fn digit_count(m: usize) -> usize
 {
     let mut n = 1;
     let mut past = 10;
-    // A number's digits: no index is counted, each turn is the next power of ten, and the library has no integer logarithm.
+    // A number's digits: no index is counted, each turn is the next power of ten, and the library has no logarithm to ten.
     while past <= m {
         n += 1;
         past *= 10;
