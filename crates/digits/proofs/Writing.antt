@@ -14,28 +14,12 @@ use Rattle.digits.proofs.Overs.{set_over, over_last}
 
 -- ---- counting
 
--- past is ten to the power n, and n is the count if m is below it
-pub record Counted (m n past : ℕ) : Type 0 where
-  pub power : past ≡ 10 ^ n
-  pub few : n ≤ past
-  pub some : 1 ≤ past
-  pub counted : m < past → n ≡ length (decimal m)
+pub one_digit : (m : ℕ) → m < 10 → 1 ≡ length (decimal m)
+one_digit m h = sym (decimal_length_one m h)
 
-pub count_start : (m : ℕ) → Counted m 1 10
-count_start m = record { power = refl; few = omega arith; some = omega arith; counted = λ h. sym (decimal_length_one m h) }
-
-pub count_more : (m n past : ℕ) → Counted m n past → past ≤ m → Counted m (n + 1) (past * 10)
-count_more m n past c h =
-    let p : 10 ^ suc n ≡ past * 10 = pow-suc 10 n ∙ ap (λ k. k * 10) (sym c.power) in
-    record {
-      power = rw (add-one n) (sym p);
-      few = omega arith;
-      some = omega arith;
-      counted = λ l. add-one n ∙ sym (decimal_length n m (rw (sym c.power) h) (rw p l));
-    }
-
-pub count_end : (m n past : ℕ) → Counted m n past → m < past → n ≡ length (decimal m)
-count_end m n past c h = c.counted h
+-- ten to the power n is at most m, and ten times as much is above it
+pub more_digits : (m n : ℕ) → 10 ^ n ≤ m → m < 10 * 10 ^ n → n + 1 ≡ length (decimal m)
+more_digits m n h l = add-one n ∙ sym (decimal_length n m h (rw (pow-suc 10 n) (omega arith)))
 
 -- ---- writing
 

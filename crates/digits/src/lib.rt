@@ -13,14 +13,10 @@ pub fn digit_count(m: usize) -> usize
     requires { m < past_numbers }
     ensures { result ≡ length (decimal m) }
 {
-    let mut n = 1;
-    let mut past = 10;
-    // A number's digits: no index is counted, each turn is the next power of ten, and the library has no logarithm to ten.
-    while past <= m {
-        n += 1;
-        past *= 10;
+    if m < 10 {
+        return 1;
     }
-    n
+    m.ilog10() as usize + 1
 }
 
 // Writes a byte at a place, and answers the place behind it.

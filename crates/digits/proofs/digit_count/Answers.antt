@@ -1,10 +1,11 @@
+-- `digits::digit_count` meets its contract.
 -- Assumes nothing.
 use borrow.Author.Rules.{rules}
-use Rattle.digits.proofs.Writing.{count_start, count_more}
+use Rattle.digits.proofs.Writing.{one_digit, more_digits}
 use Rattle.digits.proofs.digit_count.Goals as goal
 
-pub loop-past-init : goal.loop-past-init
-loop-past-init c = search (rules, count_start)
+pub returns-then-m-lt10 : goal.returns-then-m-lt10
+returns-then-m-lt10 c = search (rules, one_digit)
 
-pub loop-past-preserved : goal.loop-past-preserved
-loop-past-preserved c = search (rules, count_more)
+pub returns : goal.returns
+returns c = search (rules, more_digits)
