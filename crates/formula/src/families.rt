@@ -69,11 +69,9 @@ pub fn count_clauses(file: &[u8], index: &[u16], horizon: usize) -> usize
     requires { Indexed file.now index.now × (horizon ≤ max_horizon) }
     ensures { result ≡ C (problem_of file.now horizon) }
 {
-    let mut f = 0;
     let mut sum = 0;
-    while f < FAMILIES {
+    for f in 0..FAMILIES {
         sum += count_of(file, index, horizon, f);
-        f += 1;
     }
     sum
 }

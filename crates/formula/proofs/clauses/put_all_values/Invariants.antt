@@ -10,6 +10,3 @@ use Rattle.formula.proofs.clauses.put_all_values.Given as goal
 
 abbrev pub invariant-loop-v : goal.invariant-loop-v
 invariant-loop-v l = (l.v ≤ l.count) × (l.count ≤ length l.out) × (length l.out ≡ length l.initial.out) × (l.out ≡ written l.initial.out 0 (values_to (problem (task_of l.file) l.horizon) l.s l.x l.v))
-
-abbrev pub decreases-loop-v : goal.decreases-loop-v
-decreases-loop-v l = l.count - l.v

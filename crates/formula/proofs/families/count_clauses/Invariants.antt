@@ -9,6 +9,3 @@ use Rattle.formula.proofs.families.count_clauses.Given as goal
 
 abbrev pub invariant-loop-f : goal.invariant-loop-f
 invariant-loop-f l = (l.f ≤ family_count) × (l.sum ≡ clauses_before (task_of l.file) l.horizon l.f)
-
-abbrev pub decreases-loop-f : goal.decreases-loop-f
-decreases-loop-f l = family_count - l.f

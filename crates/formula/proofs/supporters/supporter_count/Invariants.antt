@@ -10,6 +10,3 @@ use Rattle.formula.proofs.supporters.supporter_count.Given as goal
 
 abbrev pub invariant-loop-a : goal.invariant-loop-a
 invariant-loop-a l = (l.a ≤ l.all) × (l.count ≤ l.a) × (l.count ≡ length (supporters_to (problem (task_of l.file) l.horizon) l.s l.x l.v l.a))
-
-abbrev pub decreases-loop-a : goal.decreases-loop-a
-decreases-loop-a l = l.all - l.a
