@@ -37,25 +37,6 @@ fn is_given(file: &[u8], index: &[u16], a: usize, x: usize, v: usize) -> bool
     (0..effect_count(file, index, nth_action(a))).any(|i| gives(file, index, a, x, v, i))
 }
 
-// 1 where action a has the effect x = v, 0 where not.
-fn given_count(
-    file: &[u8],
-    index: &[u16],
-    horizon: usize,
-    s: usize,
-    x: usize,
-    v: usize,
-    a: usize,
-) -> usize
-    requires { Indexed file.now index.now × (a < actionCount (task_of file.now)) }
-    ensures { (result ≡ length (supporter (problem (task_of file.now) horizon) s x v a)) × (result ≤ 1) }
-{
-    if is_given(file, index, a, x, v) {
-        return 1;
-    }
-    0
-}
-
 // How many actions have the effect x = v.
 pub fn supporter_count(
     file: &[u8],
@@ -68,12 +49,7 @@ pub fn supporter_count(
     requires { Indexed file.now index.now }
     ensures { (result ≡ length (supporters (problem (task_of file.now) horizon) s x v)) × (result ≤ actionCount (task_of file.now)) }
 {
-    let all = actions(file, index);
-    let mut count = 0;
-    for a in 0..all {
-        count += given_count(file, index, horizon, s, x, v, a);
-    }
-    count
+    (0..actions(file, index)).filter(|a| is_given(file, index, *a, x, v)).count()
 }
 
 // Action a's literal, where it has the effect x = v; the place behind it.

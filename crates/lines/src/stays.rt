@@ -135,10 +135,8 @@ fn put_supporters(
 {
     let all = actions(file, index);
     let mut end = at;
-    let mut a = 0;
-    while a < all {
+    for a in 0..all {
         end = put_supporter(file, index, horizon, s, x, v, a, given, out, end);
-        a += 1;
     }
     end
 }

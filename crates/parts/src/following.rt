@@ -35,16 +35,14 @@ fn put_values(
     ensures { PutPart file.now horizon (place_number (task_of file.now) horizon (Place.Stays s x v)) out.old at result.lines out.new result.end }
 {
     let left = size(file, x) - v;
-    let mut lines = 0;
     let mut end = at;
-    while lines < left {
+    for lines in 0..left {
         if out.len() - end < LINE_ROOM {
             return Part { lines, end };
         }
         end = put_noted(file, index, horizon, s, x, v + lines, given, out, end);
-        lines += 1;
     }
-    Part { lines, end }
+    Part { lines: left, end }
 }
 
 // The values of a variable that stay at a step, from v on.
@@ -89,16 +87,14 @@ pub fn put_preconditions(
     ensures { PutPart file.now horizon (place_number (task_of file.now) horizon (Place.Precondition s a i)) out.old at result.lines out.new result.end }
 {
     let left = preconditions_of(file, index, a) - i;
-    let mut lines = 0;
     let mut end = at;
-    while lines < left {
+    for lines in 0..left {
         if out.len() - end < PAIR_ROOM {
             return Part { lines, end };
         }
         end = put_precondition(file, index, horizon, s, a, i + lines, out, end);
-        lines += 1;
     }
-    Part { lines, end }
+    Part { lines: left, end }
 }
 
 // How many effects action a has.
@@ -124,14 +120,12 @@ pub fn put_effects(
     ensures { PutPart file.now horizon (place_number (task_of file.now) horizon (Place.Effect s a i)) out.old at result.lines out.new result.end }
 {
     let left = effects_of(file, index, a) - i;
-    let mut lines = 0;
     let mut end = at;
-    while lines < left {
+    for lines in 0..left {
         if out.len() - end < PAIR_ROOM {
             return Part { lines, end };
         }
         end = put_effect(file, index, horizon, s, a, i + lines, out, end);
-        lines += 1;
     }
-    Part { lines, end }
+    Part { lines: left, end }
 }

@@ -6,6 +6,3 @@ use Rattle.lines.proofs.clauses.put_all_values.Given as goal
 
 abbrev pub invariant-loop-v : goal.invariant-loop-v
 invariant-loop-v l = ValuesPut l.file l.horizon l.s l.x l.initial.out l.at l.count l.v l.out l.end
-
-abbrev pub decreases-loop-v : goal.decreases-loop-v
-decreases-loop-v l = l.count - l.v

@@ -6,6 +6,3 @@ use Rattle.lines.proofs.stays.put_supporters.Given as goal
 
 abbrev pub invariant-loop-a : goal.invariant-loop-a
 invariant-loop-a l = SupportersPut l.file l.horizon l.s l.x l.v l.initial.out l.at l.a l.out l.end
-
-abbrev pub decreases-loop-a : goal.decreases-loop-a
-decreases-loop-a l = l.all - l.a
