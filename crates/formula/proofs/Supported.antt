@@ -7,7 +7,6 @@ use mathlib.Core.List.{List, [], ◌∷◌, ◌++◌}
 use Prim.Native.Nat.{ℕ, zero, suc, ◌+◌, ◌≤◌, ◌<◌}
 use native.Mathlib.Omega.{arith}
 use native.Mathlib.Numerals.{add-one}
-use borrow.Author.Tests.{eq-eqb, ne_eqb}
 use lib.Dec.{eqb}
 use lib.IntN.{ℤ}
 use lib.ListN.{length, get_or, length-append}
@@ -20,8 +19,8 @@ use Rattle.rules.specs.Task.{Task, A, pair, action}
 use Rattle.rules.specs.Problem.{Problem}
 use Rattle.rules.specs.Numbering.{action_number}
 use Rattle.rules.specs.Families.{plus, supporters}
-use Rattle.rules.proofs.Bools.{either, clash}
-use Rattle.rules.proofs.Counting.{any_at, any_where, first_before, sum_to-part, length-for_each}
+use Rattle.rules.proofs.Bools.{either}
+use Rattle.rules.proofs.Counting.{sum_to-part, length-for_each}
 use Rattle.formula.specs.Front.{written, gives_by, is_given, supporter, supporters_to}
 use Rattle.formula.proofs.Writing.{written_on, written_none, length-written}
 

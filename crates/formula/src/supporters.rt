@@ -49,7 +49,9 @@ pub fn supporter_count(
     requires { Indexed file.now index.now }
     ensures { (result ≡ length (supporters (problem (task_of file.now) horizon) s x v)) × (result ≤ actionCount (task_of file.now)) }
 {
-    (0..actions(file, index)).filter(|a| is_given(file, index, *a, x, v)).count()
+    (0..actions(file, index))
+        .filter(|a| is_given(file, index, *a, x, v))
+        .count()
 }
 
 // Action a's literal, where it has the effect x = v; the place behind it.

@@ -26,7 +26,7 @@ fn put_values(
     s: usize,
     x: usize,
     v: usize,
-    given: &[usize],
+    given: &[Option<u8>],
     out: &mut [u8],
     at: usize,
 ) -> Part
@@ -59,7 +59,7 @@ pub fn put_stays(
     requires { Indexed file.now index.now × (horizon ≤ max_horizon) × RoomFor file.now horizon (Place.Stays s x v) at (length out.old) }
     ensures { PutPart file.now horizon (place_number (task_of file.now) horizon (Place.Stays s x v)) out.old at result.lines out.new result.end }
 {
-    let mut given = [0usize; MAX_ACTIONS];
+    let mut given = [None; MAX_ACTIONS];
     note_given(file, index, x, &mut given);
     put_values(file, index, horizon, s, x, v, &given, out, at)
 }

@@ -1,7 +1,7 @@
 -- `clauses::put_all_values` meets its contract. The loop's invariant: the values so far are written.
 -- Assumes nothing.
 use mathlib.Core.Path.{◌≡◌}
-use Prim.Native.Nat.{◌-◌, ◌≤◌}
+use Prim.Native.Nat.{◌≤◌}
 use lib.ListN.{length}
 use Rattle.rules.specs.Problem.{problem}
 use Rattle.rules.specs.File.{task_of}

@@ -1,7 +1,7 @@
 -- `families::count_clauses` meets its contract. The loop's invariant: the sum is that of the families so far.
 -- Assumes nothing.
 use mathlib.Core.Path.{◌≡◌}
-use Prim.Native.Nat.{◌-◌, ◌≤◌}
+use Prim.Native.Nat.{◌≤◌}
 use Rattle.rules.specs.File.{task_of}
 use Rattle.rules.proofs.ByNumber.{clauses_before}
 use Rattle.formula.specs.InFamily.{family_count}

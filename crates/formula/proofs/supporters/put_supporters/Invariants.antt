@@ -1,6 +1,6 @@
 -- `supporters::put_supporters` meets its contract. The loop's invariant: those of the actions so far are written.
 -- Assumes nothing.
-use Prim.Native.Nat.{◌-◌, ◌≤◌}
+use Prim.Native.Nat.{◌≤◌}
 use Rattle.rules.specs.Problem.{problem}
 use Rattle.rules.specs.File.{task_of}
 use Rattle.formula.proofs.Supported.{SupportersPut}

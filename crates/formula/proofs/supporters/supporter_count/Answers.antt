@@ -1,6 +1,6 @@
 -- `supporters::supporter_count` meets its contract.
 -- Assumes nothing.
-use Rattle.std.proofs.Common.{rules, tests, arith, refl, ◌≡◌, length}
+use Rattle.std.proofs.Common.{rules, tests, arith, ◌≡◌, length}
 use Rattle.std.specs.List.{filter, range_with_len}
 use Rattle.std.proofs.lemmas.Iterator.{YieldsList-from_range}
 use Rattle.std.proofs.lemmas.Iterator.Consumers.{YieldsList-from_filter, count_from_yields_List}

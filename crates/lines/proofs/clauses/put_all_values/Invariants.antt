@@ -1,6 +1,5 @@
 -- `clauses::put_all_values` meets its contract. The loop's invariant: the values so far are written.
 -- Assumes nothing.
-use Prim.Native.Nat.{◌-◌}
 use Rattle.lines.proofs.ByPlace.{ValuesPut}
 use Rattle.lines.proofs.clauses.put_all_values.Given as goal
 

@@ -1,6 +1,5 @@
 -- `stays::put_supporters` meets its contract. The loop's invariant: the literals of the actions so far are written.
 -- Assumes nothing.
-use Prim.Native.Nat.{◌-◌}
 use Rattle.lines.proofs.Supported.{SupportersPut}
 use Rattle.lines.proofs.stays.put_supporters.Given as goal
 

@@ -1,6 +1,5 @@
 -- `following::put_effects` meets its contract. The loop's invariant: the lines so far are written.
 -- Assumes nothing.
-use Prim.Native.Nat.{◌-◌}
 use Rattle.parts.proofs.InTurn.{LinesPut, effect_from}
 use Rattle.parts.proofs.following.put_effects.Given as goal
 

@@ -1,6 +1,5 @@
 -- `following::put_preconditions` meets its contract. The loop's invariant: the lines so far are written.
 -- Assumes nothing.
-use Prim.Native.Nat.{◌-◌}
 use Rattle.parts.proofs.InTurn.{LinesPut, precondition_from}
 use Rattle.parts.proofs.following.put_preconditions.Given as goal
 

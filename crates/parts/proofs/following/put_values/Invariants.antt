@@ -1,6 +1,5 @@
 -- `following::put_values` meets its contract. The loop's invariant: the lines so far are written.
 -- Assumes nothing.
-use Prim.Native.Nat.{◌-◌}
 use Rattle.parts.proofs.InTurn.{LinesPut, stays_from}
 use Rattle.parts.proofs.following.put_values.Given as goal
 
