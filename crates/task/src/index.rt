@@ -24,7 +24,7 @@ pub fn number_in(index: &[u16], at: usize) -> usize
     requires { at < length index.now }
     ensures { result ≡ get_or index.now at 0 }
 {
-    index[at] as usize
+    usize::from(index[at])
 }
 
 // off(x), also for x = n.

@@ -10,15 +10,6 @@ overflow_add-line c = search (rules, ten_fits)
 pub put_run-requires : goal.put_run-requires
 put_run-requires c = search (rules, ten_least, ten_most, ten_tail)
 
-pub returns-then-n-lt-TEN : goal.returns-then-n-lt-TEN
-returns-then-n-lt-TEN c = search (rules, run_written)
-
-pub put_run-requires-then-line-lt-WIDE : goal.put_run-requires-then-line-lt-WIDE
-put_run-requires-then-line-lt-WIDE c = search (rules, ten_least, ten_most, ten_tail)
-
-pub returns-then-line-lt-WIDE : goal.returns-then-line-lt-WIDE
-returns-then-line-lt-WIDE c = search (rules, run_written)
-
 pub put_wide-requires : goal.put_wide-requires
 put_wide-requires c = search (rules, wide_tail, wide_room)
 
