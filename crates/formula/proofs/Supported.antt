@@ -36,9 +36,6 @@ module _ (T : Task) (a b : ℕ) (eb : b ≡ a) where
   pub effects_there : (m : ℕ) → m ≡ length (action T b).effects → m ≡ length (action T a).effects
   effects_there m e = e ∙ rw eb
 
-  pub effect_below : (m i : ℕ) → m ≡ length (action T b).effects → i < m → i < length (action T a).effects
-  effect_below m i e h = omega (arith, effects_there m e)
-
   pub gives_pair : (x v i y w : ℕ) (r : Bool) → r ≡ (eqb y x && eqb w v) → y ≡ (pair (action T b).effects i).variable
       → w ≡ (pair (action T b).effects i).value → r ≡ gives_by T a x v i
   unfolding gives_by

@@ -58,13 +58,9 @@ fn given_to(file: &[u8], index: &[u16], x: usize, a: usize) -> Option<u8>
     requires { Indexed file.now index.now × (a < actionCount (task_of file.now)) }
     ensures { result ≡ given_to (task_of file.now) x a }
 {
-    let count = effects_of(file, index, a);
-    for i in 0..count {
-        if sets(file, index, x, a, i) {
-            return Some(value_set(file, index, a, i));
-        }
-    }
-    None
+    (0..effects_of(file, index, a))
+        .find(|i| sets(file, index, x, a, *i))
+        .map(|i| value_set(file, index, a, i))
 }
 
 // Notes the value that each action gives x.

@@ -162,18 +162,6 @@ module _ (file : List ℕ) (k s : ℕ) where
         (within_steps k (A T) preconditions s a (i + lines - 1) hs ha (last_below i lines (preconditions a) some h hi))
         (omega (arith, (starts T k).start6, (starts T k).start7, (starts T k).start8, (starts T k).end))
 
-    pub precondition_count : (from to : ℕ) → from ≡ preconditions_before T a → to ≡ preconditions_before T (a + 1) → to - from ≡ preconditions a
-    unfolding preconditions_before sum_to
-    precondition_count from to e f =
-        let next : preconditions_before T (a + 1) ≡ preconditions_before T a + preconditions a = rw (add-one a) in
-        omega arith
-
-    pub precondition_counts : (from to : ℕ) → from ≡ preconditions_before T a → to ≡ preconditions_before T (a + 1) → from ≤ to
-    unfolding preconditions_before sum_to
-    precondition_counts from to e f =
-        let next : preconditions_before T (a + 1) ≡ preconditions_before T a + preconditions a = rw (add-one a) in
-        omega arith
-
     module _ (room now : List ℕ) (at lines end count left : ℕ) (p : LinesPut file k (precondition_from s a i) room at left lines now end)
         (h : PairRoomFor file k (Precondition s a i) at (length room)) (ec : count ≡ preconditions a) (el : left ≡ count - i) where
       pub precondition_there : lines < left → pair_room ≤ length now - end → PairRoomFor file k (Precondition s a (i + lines)) end (length now)
@@ -215,18 +203,6 @@ module _ (file : List ℕ) (k s : ℕ) where
         (within_steps k (A T) effects s a (i + lines - 1) hs ha (last_below i lines (effects a) some h hi))
         (omega (arith, (starts T k).start7, (starts T k).start8, (starts T k).end))
 
-    pub effect_count : (from to : ℕ) → from ≡ effects_before T a → to ≡ effects_before T (a + 1) → to - from ≡ effects a
-    unfolding effects_before sum_to
-    effect_count from to e f =
-        let next : effects_before T (a + 1) ≡ effects_before T a + effects a = rw (add-one a) in
-        omega arith
-
-    pub effect_counts : (from to : ℕ) → from ≡ effects_before T a → to ≡ effects_before T (a + 1) → from ≤ to
-    unfolding effects_before sum_to
-    effect_counts from to e f =
-        let next : effects_before T (a + 1) ≡ effects_before T a + effects a = rw (add-one a) in
-        omega arith
-
     module _ (room now : List ℕ) (at lines end count left : ℕ) (p : LinesPut file k (effect_from s a i) room at left lines now end)
         (h : PairRoomFor file k (Effect s a i) at (length room)) (ec : count ≡ effects a) (el : left ≡ count - i) where
       pub effect_there : lines < left → pair_room ≤ length now - end → PairRoomFor file k (Effect s a (i + lines)) end (length now)
@@ -249,17 +225,3 @@ module _ (file : List ℕ) (k s : ℕ) where
           let inside = h.inside in
           let whole : lines ≡ left = omega (arith, p.up_to) in
           rw whole at effect_some (omega arith)
-
--- an action and the next one have rows in the index
-module _ (file index : List ℕ) (ix : Indexed file index) (a : ℕ) (h : a < A (task_of file)) where
-  few : A (task_of file) ≤ max_actions
-  few = (accepted_well_formed file ix.accepted).actions_few
-
-  pub row_here : a ≤ max_actions
-  row_here = omega (arith, few)
-
-  pub row_next : a + 1 ≤ max_actions
-  row_next = omega (arith, few)
-
-  pub row_fits : Fits w64 (a + 1)
-  row_fits = record { fits = omega (arith, few) }

@@ -6,9 +6,6 @@ use Rattle.lines.proofs.ByPlace.{effect_line_lem}
 use borrow.Author.Rules.{rules}
 use Rattle.lines.proofs.clauses.put_effect.Goals as goal
 
-pub effect-pair-requires : goal.effect-pair-requires
-effect-pair-requires c = search (rules, action_there, effect_there)
-
 pub pair_at-second-requires : goal.pair_at-second-requires
 pair_at-second-requires c = search (rules, effect_variable, effect_value)
 

@@ -6,9 +6,6 @@ use Rattle.lines.proofs.ByPlace.{precondition_line}
 use borrow.Author.Rules.{rules}
 use Rattle.lines.proofs.clauses.put_precondition.Goals as goal
 
-pub precondition-pair-requires : goal.precondition-pair-requires
-precondition-pair-requires c = search (rules, action_there, precondition_there)
-
 pub pair_at-second-requires : goal.pair_at-second-requires
 pair_at-second-requires c = search (rules, precondition_variable, precondition_value)
 
