@@ -2,7 +2,7 @@
 -- Assumes nothing.
 use mathlib.Core.Path.{◌≡◌, sym, ap, ◌∙◌}
 use mathlib.Core.Logic.{⊎_elim}
-use mathlib.Core.Bool.{Bool, true, false, ◌&&◌}
+use mathlib.Core.Bool.{true, false, ◌&&◌}
 use mathlib.Core.List.{List}
 use Prim.Native.Nat.{ℕ, ◌+◌, ◌≤◌, ◌<◌}
 use native.Mathlib.Omega.{arith}
@@ -22,7 +22,6 @@ use Rattle.rules.specs.File.{task_of}
 use Rattle.rules.proofs.Bools.{either, below_suc, and_left, and_right, and_both}
 use Rattle.rules.proofs.Counting.{any_at, any_where, first_at, first_is, first_none}
 use Rattle.std.specs.Option.{MatchOption, option_map}
-use Rattle.rules.proofs.Loops.{found_at}
 use Rattle.rules.proofs.Valid.{Inside, WellFormed}
 use Rattle.rules.proofs.Moves.{pairs_apart}
 use Rattle.rules.proofs.Files.{accepted_well_formed}

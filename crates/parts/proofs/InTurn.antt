@@ -6,9 +6,6 @@ use Prim.Native.Nat.{ℕ, zero, suc, ◌+◌, ◌-◌, ◌*◌, ◌≤◌, ◌<�
 use native.Mathlib.Omega.{arith}
 use native.Mathlib.Numerals.{add-one}
 use lib.ListN.{length}
-use mir.Syntax.{w64}
-use mir.Val.{Fits}
-use Rattle.rules.specs.Limits.{max_actions}
 use Rattle.rules.specs.Counting.{for_each, sum_to}
 use Rattle.rules.specs.Task.{Task, n, d, off, S, A, action}
 use Rattle.rules.specs.Problem.{Problem, problem}
@@ -19,8 +16,7 @@ use Rattle.rules.specs.Calls.{problem_of}
 use Rattle.rules.proofs.Counting.{for_each-ext}
 use Rattle.rules.proofs.Places.{within_steps}
 use Rattle.rules.proofs.ByNumber.{clauses_before, starts, clause5, clause6, clause7}
-use Rattle.rules.proofs.Files.{accepted_well_formed}
-use Rattle.task.specs.Index.{Indexed, preconditions_before, effects_before}
+use Rattle.task.specs.Index.{preconditions_before, effects_before}
 use Rattle.digits.specs.Over.{Wrote}
 use Rattle.digits.proofs.Overs.{wrote_nothing, wrote_more}
 use Rattle.formula.specs.declared.place.Place.{Place}

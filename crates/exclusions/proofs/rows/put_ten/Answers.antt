@@ -1,6 +1,6 @@
 -- `exclusions::rows::put_ten` meets its contract.
 -- Assumes nothing.
-use Rattle.exclusions.proofs.Rowing.{ten_fits, ten_least, ten_most, ten_tail, run_written, wide_tail, wide_room, wide_written, wide_within}
+use Rattle.exclusions.proofs.Rowing.{ten_fits, ten_least, ten_most, ten_tail, wide_tail, wide_room, wide_written}
 use borrow.Author.Rules.{rules}
 use Rattle.exclusions.proofs.rows.put_ten.Goals as goal
 
@@ -15,6 +15,3 @@ put_wide-requires c = search (rules, wide_tail, wide_room)
 
 pub returns-clause-written : goal.returns-clause-written
 returns-clause-written c = search (rules, wide_written)
-
-pub returns-clause-within : goal.returns-clause-within
-returns-clause-within c = search (rules, wide_within)

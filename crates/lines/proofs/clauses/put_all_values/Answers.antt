@@ -1,5 +1,5 @@
 -- Assumes nothing.
-use Rattle.lines.proofs.ByPlace.{values_start, value_room, values_more, end_room_lem, values_end, values_within}
+use Rattle.lines.proofs.ByPlace.{values_start, values_more, values_end}
 use borrow.Author.Rules.{rules}
 use Rattle.lines.proofs.clauses.put_all_values.Goals as goal
 

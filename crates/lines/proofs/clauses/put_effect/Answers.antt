@@ -1,7 +1,6 @@
 -- `clauses::put_effect` meets its contract.
 -- Assumes nothing.
 use Rattle.formula.proofs.Spelled.{effect_variable, effect_value}
-use Rattle.formula.proofs.Supported.{action_there, effect_there}
 use Rattle.lines.proofs.ByPlace.{effect_line_lem}
 use borrow.Author.Rules.{rules}
 use Rattle.lines.proofs.clauses.put_effect.Goals as goal

@@ -1,7 +1,6 @@
 -- `clauses::put_precondition` meets its contract.
 -- Assumes nothing.
-use Rattle.formula.proofs.Spelled.{precondition_there, precondition_variable, precondition_value}
-use Rattle.formula.proofs.Supported.{action_there}
+use Rattle.formula.proofs.Spelled.{precondition_variable, precondition_value}
 use Rattle.lines.proofs.ByPlace.{precondition_line}
 use borrow.Author.Rules.{rules}
 use Rattle.lines.proofs.clauses.put_precondition.Goals as goal

@@ -1,10 +1,8 @@
 -- `stays::given_to` meets its contract.
 -- Assumes nothing.
-use Rattle.std.proofs.Common.{rules, tests, sym, ◌≡◌, ◌∙◌, true, false}
-use Rattle.std.specs.Option.{option_map}
+use Rattle.std.proofs.Common.{rules, tests, ◌≡◌, true, false}
 use Rattle.std.proofs.lemmas.Iterator.{first_from_Range}
 use Rattle.rules.specs.File.{task_of}
-use Rattle.rules.specs.Task.{pair, action}
 use Rattle.lines.specs.Given.{sets_it}
 use Rattle.lines.proofs.Noting.{given_by_find}
 use Rattle.lines.proofs.stays.given_to.Goals as goal

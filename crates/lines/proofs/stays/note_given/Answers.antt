@@ -1,5 +1,5 @@
 -- Assumes nothing.
-use Rattle.lines.proofs.Noting.{note_start, note_below, note_more, note_all}
+use Rattle.lines.proofs.Noting.{note_start}
 use borrow.Author.Rules.{rules}
 use Rattle.lines.proofs.stays.note_given.Goals as goal
 
