@@ -166,9 +166,6 @@ module _ (file : List ℕ) (k s q : ℕ) where
         }
 
   module _ (x before : ℕ) (i : InPart (n Tk) (d Tk) q x) (eb : before ≡ off Tk x) where
-    pub values_behind : before ≤ q
-    values_behind = omega (arith, i.begun)
-
     pub stays_placed : s < steps_of k 6 → PlacedIn file k 6 s q (Stays s x (q - before))
     unfolding PlacedIn number_in problem_of steps_of width_of
     stays_placed hs =

@@ -4,22 +4,20 @@ use mathlib.Core.Path.{◌≡◌, sym, ap, ◌∙◌}
 use mathlib.Core.Logic.{⊎_elim}
 use mathlib.Core.Bool.{true, false, ◌&&◌}
 use mathlib.Core.List.{List}
-use Prim.Native.Nat.{ℕ, ◌+◌, ◌≤◌, ◌<◌}
+use Prim.Native.Nat.{ℕ, ◌≤◌, ◌<◌}
 use native.Mathlib.Omega.{arith}
-use native.Mathlib.Numerals.{add-one}
 use borrow.Author.Tests.{eq-eqb, ne_eqb, eqb-true, lt-ltb, le-ltb, ltb-true}
 use lib.Dec.{eqb, ltb}
-use lib.ListN.{length, set, length-set}
+use lib.ListN.{length}
 use Rattle.std.specs.Prelude.{Option, Some, None}
 use Rattle.std.proofs.lemmas.Option.{cond_some}
-use lib.Seq.{get_or-set_same, get_or-set_other}
 use mir.Syntax.{w8}
 use mir.Val.{Fits}
 use Rattle.rules.specs.Limits.{max_actions}
 use Rattle.rules.specs.Counting.{first}
 use Rattle.rules.specs.Task.{Task, Pair, n, d, A, pair, action}
 use Rattle.rules.specs.File.{task_of}
-use Rattle.rules.proofs.Bools.{either, below_suc, and_left, and_right, and_both}
+use Rattle.rules.proofs.Bools.{either, and_left, and_right, and_both}
 use Rattle.rules.proofs.Counting.{any_at, any_where, first_at, first_is, first_none}
 use Rattle.std.specs.Option.{MatchOption, option_map}
 use Rattle.rules.proofs.Valid.{Inside, WellFormed}
@@ -30,13 +28,6 @@ use Rattle.formula.specs.Front.{is_given}
 use Rattle.lines.specs.Given.{sets_it, setter, given_to, Noted}
 
 -- ---- found
-
-module _ (T : Task) (a b : ℕ) (eb : b ≡ a) where
-  pub effect_variable_is : (i y : ℕ) → y ≡ (pair (action T b).effects i).variable → y ≡ (pair (action T a).effects i).variable
-  effect_variable_is i y e = e ∙ rw eb
-
-  pub effect_value_is : (i w : ℕ) → w ≡ (pair (action T b).effects i).value → w ≡ (pair (action T a).effects i).value
-  effect_value_is i w e = e ∙ rw eb
 
 pub sets_is : (T : Task) (x a i y y' : ℕ) → y ≡ (pair (action T a).effects i).variable → y' ≡ y → eqb y' x ≡ sets_it T x a i
 unfolding sets_it
@@ -115,23 +106,3 @@ note_start file index given x all ix ea e =
 module _ (T : Task) (given : List (Option ℕ)) (x m all : ℕ) (h : Noting T x all m given) where
   pub note_below : m < all → m < length given
   note_below l = omega (arith, h.fits)
-
-  pub note_more : (next : List (Option ℕ)) (r : Option ℕ) → next ≡ set given m r → r ≡ given_to T x m → m < all → Noting T x all (m + 1) next
-  note_more next r f e l =
-      rw f
-      (record {
-        so_far =
-            record {
-              room = length-set given m r ∙ h.so_far.room;
-              each = λ a b.
-                  ⊎_elim
-                  (λ k. get_or-set_other given m a r None (omega arith) ∙ h.so_far.each a k)
-                  (λ k. rw k (get_or-set_same given m r None (note_below l) ∙ e))
-                  (below_suc a m (rw (← add-one m) b));
-            };
-        up_to = omega arith;
-        fits = omega (arith, h.fits, length-set given m r);
-      })
-
-  pub note_all : all ≡ A T → all ≤ m → Noted T x (A T) given
-  note_all ea g = let i : m ≡ A T = omega (arith, h.up_to) in rw i at h.so_far

@@ -26,7 +26,7 @@ use Rattle.task.specs.Index.{Indexed}
 use Rattle.formula.specs.Front.{is_given, supporter, supporters_to}
 use Rattle.formula.proofs.Supported.{supporters_all}
 use Rattle.digits.specs.Over.{Wrote}
-use Rattle.lines.specs.Written.{literals, literal_room, supporters_room}
+use Rattle.lines.specs.Written.{literals, literal_room}
 use Rattle.lines.specs.Given.{Noted}
 use Rattle.lines.proofs.Writes.{wrote_literals, no_literals}
 use Rattle.lines.proofs.Noting.{given_is, given_not}
@@ -90,12 +90,6 @@ module _ (file : List ℕ) (k s x v : ℕ) where
   supporters_next a = rw (add-one a)
 
   module _ (room now : List ℕ) (at a end all : ℕ) (r : SupportersPut room at a now end) (f : all ≡ A (task_of file)) where
-    pub support_room : a < all → at + supporters_room ≤ length room → end + literal_room ≤ length now
-    support_room h g = omega (arith, r.few, r.up_to, r.most, r.kept)
-
-    pub action_noted : (index : List ℕ) (given : List (Option ℕ)) → Indexed file index → Noted (task_of file) x (A (task_of file)) given → a < all → a < length given
-    action_noted index given ix noted h = omega (arith, noted.room, r.most)
-
     pub support_more : (next : List ℕ) (behind : ℕ) → a < all → Wrote now end (literals (supporter P s x v a)) next behind
         → behind ≤ end + literal_room → length next ≡ length now → SupportersPut room at (a + 1) next behind
     support_more next behind h w few kept =
@@ -110,6 +104,3 @@ module _ (file : List ℕ) (k s x v : ℕ) where
     pub support_end : all ≤ a → Wrote room at (literals (supporters P s x v)) now end
     support_end h =
         let i : a ≡ A (task_of file) = omega (arith, r.up_to) in rw (← supporters_all P s x v a i) r.so_far
-
-  pub support_within : (room now : List ℕ) (at a end : ℕ) → SupportersPut room at a now end → end ≤ at + supporters_room
-  support_within room now at a end r = omega (arith, r.few, r.up_to, r.most)

@@ -52,9 +52,6 @@ lines_start file k places room at left enough h =
     record { so_far = wrote_nothing room at; kept = refl; moved = λ z. refl; up_to = omega arith; within = omega arith }
 
 module _ (file : List ℕ) (k : ℕ) (places : ℕ → Place) (room : List ℕ) (at left lines : ℕ) (now : List ℕ) (end : ℕ) (p : LinesPut file k places room at left lines now end) where
-  pub end_inside : end ≤ length now
-  end_inside = omega (arith, p.within, p.kept)
-
   pub lines_more : (next : List ℕ) (behind enough : ℕ) → lines < left → enough ≤ length now - end → Wrote now end (place_line file k (places lines)) next behind
       → behind ≤ end + enough → length next ≡ length now → LinesPut file k places room at left (lines + 1) next behind
   unfolding for_each
@@ -119,11 +116,6 @@ module _ (file : List ℕ) (k s : ℕ) where
 
     module _ (room now : List ℕ) (at lines end count left : ℕ) (p : LinesPut file k (stays_from s x v) room at left lines now end)
         (h : RoomFor file k (Stays s x v) at (length room)) (ec : count ≡ d T x) (el : left ≡ count - v) where
-      pub stays_there : lines < left → line_room ≤ length now - end → RoomFor file k (Stays s x (v + lines)) end (length now)
-      stays_there l enough =
-          let inside = h.inside in
-          record { inside = (inside.0, inside.1, omega arith); enough = omega (arith, p.within, p.kept) }
-
       stays_some : 1 ≤ lines → PutPart file k (place_number T k (Stays s x v)) room at lines now end
       stays_some some =
           let inside = h.inside in

@@ -105,7 +105,8 @@ fn effects_of(file: &[u8], index: &[u16], a: usize) -> usize
     effect_count(file, index, nth_action(a))
 }
 
-// The effects of an action at a step, from pair i on.
+// The effects of an action at a step, from pair i on. The same loop as for preconditions: one function for both would take an enum and two matches
+// on it, and be no shorter.
 pub fn put_effects(
     file: &[u8],
     index: &[u16],

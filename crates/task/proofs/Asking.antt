@@ -166,9 +166,6 @@ number_fits s w h l = record { fits = omega (arith, mul-le-mul h l) }
 pub number-fits₁ : (s w p : ℕ) → s ≤ max_horizon → w ≤ max_values + max_actions → p ≤ w → Fits w64 (s * w + p)
 number-fits₁ s w p h l k = record { fits = omega (arith, mul-le-mul h l) }
 
-pub number-fits₂ : (s w p : ℕ) → s ≤ max_horizon → w ≤ max_values + max_actions → p ≤ w → Fits w64 (s * w + p + 1)
-number-fits₂ s w p h l k = record { fits = omega (arith, mul-le-mul h l) }
-
 -- ---- the numbers are the same at every horizon
 
 module _ (file : List ℕ) (k s : ℕ) where
