@@ -34,7 +34,10 @@ fn put_ten(out: &mut [u8], at: usize, head: u64, beside: usize, m: usize, n: usi
 {
     let line = beside + digits_of(m);
     let tail = tail_of(m);
-    if n < TEN || line < WIDE {
+    if n < TEN {
+        return put_run(out, at, head, line, tail, n);
+    }
+    if line < WIDE {
         return put_run(out, at, head, line, tail, n);
     }
     put_wide(out, at, head, tail)

@@ -24,7 +24,7 @@ pub fn number_in(index: &[u16], at: usize) -> usize
     requires { at < length index.now }
     ensures { result ≡ get_or index.now at 0 }
 {
-    usize::from(index[at])
+    index[at] as usize
 }
 
 // off(x), also for x = n.

@@ -10,6 +10,9 @@ overflow_add-line c = search (rules, ten_fits)
 pub put_run-requires : goal.put_run-requires
 put_run-requires c = search (rules, ten_least, ten_most, ten_tail)
 
+pub put_run-requires-then-line-lt-WIDE : goal.put_run-requires-then-line-lt-WIDE
+put_run-requires-then-line-lt-WIDE c = search (rules, ten_least, ten_most, ten_tail)
+
 pub put_wide-requires : goal.put_wide-requires
 put_wide-requires c = search (rules, wide_tail, wide_room)
 
