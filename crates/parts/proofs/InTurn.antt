@@ -6,6 +6,9 @@ use Prim.Native.Nat.{ℕ, zero, suc, ◌+◌, ◌-◌, ◌*◌, ◌≤◌, ◌<�
 use native.Mathlib.Omega.{arith}
 use native.Mathlib.Numerals.{add-one}
 use lib.ListN.{length}
+use mir.Syntax.{w64}
+use mir.Val.{Fits}
+use Rattle.rules.specs.Limits.{max_actions}
 use Rattle.rules.specs.Counting.{for_each, sum_to}
 use Rattle.rules.specs.Task.{Task, n, d, off, S, A, action}
 use Rattle.rules.specs.Problem.{Problem, problem}
@@ -16,7 +19,8 @@ use Rattle.rules.specs.Calls.{problem_of}
 use Rattle.rules.proofs.Counting.{for_each-ext}
 use Rattle.rules.proofs.Places.{within_steps}
 use Rattle.rules.proofs.ByNumber.{clauses_before, starts, clause5, clause6, clause7}
-use Rattle.task.specs.Index.{preconditions_before, effects_before}
+use Rattle.rules.proofs.Files.{accepted_well_formed}
+use Rattle.task.specs.Index.{Indexed, preconditions_before, effects_before}
 use Rattle.digits.specs.Over.{Wrote}
 use Rattle.digits.proofs.Overs.{wrote_nothing, wrote_more}
 use Rattle.formula.specs.declared.place.Place.{Place}
@@ -52,6 +56,9 @@ lines_start file k places room at left enough h =
     record { so_far = wrote_nothing room at; kept = refl; moved = λ z. refl; up_to = omega arith; within = omega arith }
 
 module _ (file : List ℕ) (k : ℕ) (places : ℕ → Place) (room : List ℕ) (at left lines : ℕ) (now : List ℕ) (end : ℕ) (p : LinesPut file k places room at left lines now end) where
+  pub end_inside : end ≤ length now
+  end_inside = omega (arith, p.within, p.kept)
+
   pub lines_more : (next : List ℕ) (behind enough : ℕ) → lines < left → enough ≤ length now - end → Wrote now end (place_line file k (places lines)) next behind
       → behind ≤ end + enough → length next ≡ length now → LinesPut file k places room at left (lines + 1) next behind
   unfolding for_each
@@ -116,6 +123,11 @@ module _ (file : List ℕ) (k s : ℕ) where
 
     module _ (room now : List ℕ) (at lines end count left : ℕ) (p : LinesPut file k (stays_from s x v) room at left lines now end)
         (h : RoomFor file k (Stays s x v) at (length room)) (ec : count ≡ d T x) (el : left ≡ count - v) where
+      pub stays_there : lines < left → line_room ≤ length now - end → RoomFor file k (Stays s x (v + lines)) end (length now)
+      stays_there l enough =
+          let inside = h.inside in
+          record { inside = (inside.0, inside.1, omega arith); enough = omega (arith, p.within, p.kept) }
+
       stays_some : 1 ≤ lines → PutPart file k (place_number T k (Stays s x v)) room at lines now end
       stays_some some =
           let inside = h.inside in
@@ -149,6 +161,18 @@ module _ (file : List ℕ) (k s : ℕ) where
         within_family (clauses_before T k 4) (s * sum_to (A T) preconditions) (sum_to a preconditions) i lines (preconditions a) (k * sum_to (A T) preconditions) (C P) some
         (within_steps k (A T) preconditions s a (i + lines - 1) hs ha (last_below i lines (preconditions a) some h hi))
         (omega (arith, (starts T k).start6, (starts T k).start7, (starts T k).start8, (starts T k).end))
+
+    pub precondition_count : (from to : ℕ) → from ≡ preconditions_before T a → to ≡ preconditions_before T (a + 1) → to - from ≡ preconditions a
+    unfolding preconditions_before sum_to
+    precondition_count from to e f =
+        let next : preconditions_before T (a + 1) ≡ preconditions_before T a + preconditions a = rw (add-one a) in
+        omega arith
+
+    pub precondition_counts : (from to : ℕ) → from ≡ preconditions_before T a → to ≡ preconditions_before T (a + 1) → from ≤ to
+    unfolding preconditions_before sum_to
+    precondition_counts from to e f =
+        let next : preconditions_before T (a + 1) ≡ preconditions_before T a + preconditions a = rw (add-one a) in
+        omega arith
 
     module _ (room now : List ℕ) (at lines end count left : ℕ) (p : LinesPut file k (precondition_from s a i) room at left lines now end)
         (h : PairRoomFor file k (Precondition s a i) at (length room)) (ec : count ≡ preconditions a) (el : left ≡ count - i) where
@@ -191,6 +215,18 @@ module _ (file : List ℕ) (k s : ℕ) where
         (within_steps k (A T) effects s a (i + lines - 1) hs ha (last_below i lines (effects a) some h hi))
         (omega (arith, (starts T k).start7, (starts T k).start8, (starts T k).end))
 
+    pub effect_count : (from to : ℕ) → from ≡ effects_before T a → to ≡ effects_before T (a + 1) → to - from ≡ effects a
+    unfolding effects_before sum_to
+    effect_count from to e f =
+        let next : effects_before T (a + 1) ≡ effects_before T a + effects a = rw (add-one a) in
+        omega arith
+
+    pub effect_counts : (from to : ℕ) → from ≡ effects_before T a → to ≡ effects_before T (a + 1) → from ≤ to
+    unfolding effects_before sum_to
+    effect_counts from to e f =
+        let next : effects_before T (a + 1) ≡ effects_before T a + effects a = rw (add-one a) in
+        omega arith
+
     module _ (room now : List ℕ) (at lines end count left : ℕ) (p : LinesPut file k (effect_from s a i) room at left lines now end)
         (h : PairRoomFor file k (Effect s a i) at (length room)) (ec : count ≡ effects a) (el : left ≡ count - i) where
       pub effect_there : lines < left → pair_room ≤ length now - end → PairRoomFor file k (Effect s a (i + lines)) end (length now)
@@ -213,3 +249,17 @@ module _ (file : List ℕ) (k s : ℕ) where
           let inside = h.inside in
           let whole : lines ≡ left = omega (arith, p.up_to) in
           rw whole at effect_some (omega arith)
+
+-- an action and the next one have rows in the index
+module _ (file index : List ℕ) (ix : Indexed file index) (a : ℕ) (h : a < A (task_of file)) where
+  few : A (task_of file) ≤ max_actions
+  few = (accepted_well_formed file ix.accepted).actions_few
+
+  pub row_here : a ≤ max_actions
+  row_here = omega (arith, few)
+
+  pub row_next : a + 1 ≤ max_actions
+  row_next = omega (arith, few)
+
+  pub row_fits : Fits w64 (a + 1)
+  row_fits = record { fits = omega (arith, few) }

@@ -14,9 +14,9 @@ ghost use Rattle.parts.specs.Runs.{PutPart};
 use crate::single::{LINE_ROOM, PAIR_ROOM, Part};
 use lines::clauses::{put_effect, put_precondition};
 use lines::stays::{note_given, put_noted};
-use task::asked::{effect_count, precondition_count, size};
+use task::asked::size;
+use task::index::{effects_before, preconditions_before};
 use task::limits::MAX_ACTIONS;
-use task::numbering::nth_action;
 
 // The values of x from v on, by what was noted.
 fn put_values(
@@ -69,7 +69,7 @@ fn preconditions_of(file: &[u8], index: &[u16], a: usize) -> usize
     requires { Indexed file.now index.now × (a < actionCount (task_of file.now)) }
     ensures { result ≡ length (action (task_of file.now) a).preconditions }
 {
-    precondition_count(file, index, nth_action(a))
+    preconditions_before(file, index, a + 1) - preconditions_before(file, index, a)
 }
 
 // The preconditions of an action at a step, from pair i on.
@@ -102,7 +102,7 @@ fn effects_of(file: &[u8], index: &[u16], a: usize) -> usize
     requires { Indexed file.now index.now × (a < actionCount (task_of file.now)) }
     ensures { result ≡ length (action (task_of file.now) a).effects }
 {
-    effect_count(file, index, nth_action(a))
+    effects_before(file, index, a + 1) - effects_before(file, index, a)
 }
 
 // The effects of an action at a step, from pair i on. The same loop as for preconditions: one function for both would take an enum and two matches
