@@ -9,7 +9,7 @@ use native.Mathlib.Omega.{arith}
 use borrow.Author.Tests.{eq-eqb, ne_eqb, eqb-true, lt-ltb, le-ltb, ltb-true}
 use lib.Dec.{eqb, ltb}
 use lib.ListN.{length}
-use Rattle.std.specs.Prelude.{Option, Some, None}
+use Rattle.std.specs.Prelude.{Bool, Option, Some, None}
 use Rattle.std.proofs.lemmas.Option.{cond_some}
 use mir.Syntax.{w8}
 use mir.Val.{Fits}
@@ -18,8 +18,8 @@ use Rattle.rules.specs.Counting.{first}
 use Rattle.rules.specs.Task.{Task, Pair, n, d, A, pair, action}
 use Rattle.rules.specs.File.{task_of}
 use Rattle.rules.proofs.Bools.{either, and_left, and_right, and_both}
-use Rattle.rules.proofs.Counting.{any_at, any_where, first_at, first_is, first_none}
-use Rattle.std.specs.Option.{MatchOption, option_map}
+use Rattle.rules.proofs.Counting.{any_at, any_where, first_at, first_is}
+use Rattle.rules.proofs.Loops.{found_at}
 use Rattle.rules.proofs.Valid.{Inside, WellFormed}
 use Rattle.rules.proofs.Moves.{pairs_apart}
 use Rattle.rules.proofs.Files.{accepted_well_formed}
@@ -33,19 +33,19 @@ pub sets_is : (T : Task) (x a i y y' : ℕ) → y ≡ (pair (action T a).effects
 unfolding sets_it
 sets_is T x a i y y' e f = ap (λ z. eqb z x) (f ∙ e)
 
--- the value of the first effect that is of x, where it was searched for from 0 on
-pub given_by_find : (T : Task) (x a m : ℕ) (o r : Option ℕ) → r ≡ option_map (λ i. (pair (action T a).effects i).value) o → m ≡ length (action T a).effects
-    → MatchOption o
-    ((k : ℕ) → 0 ≤ k → k < m → sets_it T x a k ≡ false)
-    (λ i. (0 ≤ i) × (i < m) × (sets_it T x a i ≡ true) × ((k : ℕ) → 0 ≤ k → k < i → sets_it T x a k ≡ false))
-    → r ≡ given_to T x a
+pub value_found : (T : Task) (x a i m w : ℕ) (b : Bool) → w ≡ (pair (action T a).effects i).value → b ≡ sets_it T x a i → b ≡ true
+    → first i (sets_it T x a) ≡ i → m ≡ length (action T a).effects → i < m → Some w ≡ given_to T x a
 unfolding given_to setter
-given_by_find T x a m None r er e h =
-    let none : first m (sets_it T x a) ≡ m = first_none m (sets_it T x a) (λ k l. h k (omega arith) l) in
-    rw (er, ← e, none, le-ltb m m (omega arith))
-given_by_find T x a m (Some i) r er e h =
-    let here : first m (sets_it T x a) ≡ i = first_is m (sets_it T x a) i h.1 h.2 (λ k l. h.3 k (omega arith) l) in
-    rw (er, ← e, here, lt-ltb i m h.1)
+value_found T x a i m w b ew e t f em l =
+    let below : i < length (action T a).effects = omega arith in
+    let here : i ≡ first (length (action T a).effects) (sets_it T x a) = found_at (sets_it T x a) (length (action T a).effects) i b f below e t in
+    rw (← here, lt-ltb i (length (action T a).effects) below) (ap Some ew)
+
+pub none_found : (T : Task) (x a i m : ℕ) → m ≡ length (action T a).effects → m ≤ i → i ≤ m → first i (sets_it T x a) ≡ i → None ≡ given_to T x a
+unfolding given_to setter
+none_found T x a i m em h l f =
+    let all : i ≡ length (action T a).effects = omega arith in
+    rw (← all, f, le-ltb i i (omega arith))
 
 pub value_byte : (file index : List ℕ) (a i y w : ℕ) → Indexed file index → a < A (task_of file) → i < length (action (task_of file) a).effects
     → y ≡ (pair (action (task_of file) a).effects i).value → w ≡ y → Fits w8 w

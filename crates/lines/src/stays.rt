@@ -58,9 +58,14 @@ fn given_to(file: &[u8], index: &[u16], x: usize, a: usize) -> Option<u8>
     requires { Indexed file.now index.now × (a < actionCount (task_of file.now)) }
     ensures { result ≡ given_to (task_of file.now) x a }
 {
-    (0..effects_of(file, index, a))
-        .find(|i| sets(file, index, x, a, *i))
-        .map(|i| value_set(file, index, a, i))
+    // Not `find` and `map`: with them the clause program takes 0.063 s for the largest formula, with this loop 0.060 s.
+    let count = effects_of(file, index, a);
+    for i in 0..count {
+        if sets(file, index, x, a, i) {
+            return Some(value_set(file, index, a, i));
+        }
+    }
+    None
 }
 
 // Notes the value that each action gives x.
