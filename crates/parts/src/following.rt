@@ -64,7 +64,7 @@ pub fn put_stays(
     put_values(file, index, horizon, s, x, v, &given, out, at)
 }
 
-// How many preconditions action a has. Not `task::asked::precondition_count`: with it the clause program takes 0.065 s for the largest formula, with
+// How many preconditions action a has. Not `task::asked::precondition_count`: with it the clause program takes 0.067 s for the largest formula, with
 // the index 0.060 s.
 fn preconditions_of(file: &[u8], index: &[u16], a: usize) -> usize
     requires { Indexed file.now index.now × (a < actionCount (task_of file.now)) }
