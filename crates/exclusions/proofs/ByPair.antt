@@ -86,9 +86,6 @@ pairs_start room at base count first second lines h l =
     }
 
 module _ (room : List ℕ) (at base count from lines : ℕ) (now : List ℕ) (end i j left : ℕ) (p : PairsPut room at base count from lines now end i j left) where
-  pub row_space : (k : ℕ) → k ≤ left → at + pair_room * lines ≤ length room → end + pair_room * k ≤ length now
-  row_space k l h = omega (arith, p.within, p.kept)
-
   -- k lines more
   part_written : (now' : List ℕ) (end' k : ℕ) → k ≤ left → j + k ≤ count → Wrote now end (row_text (base + i) (base + j) k) now' end'
       → Wrote room at (exclusion_lines base count from (lines - (left - k))) now' end'
@@ -122,6 +119,3 @@ module _ (room : List ℕ) (at base count from lines : ℕ) (now : List ℕ) (en
   pairs_end now' end' l w =
       let e : lines ≡ lines - (left - left) = omega arith in
       rw e (part_written now' end' left (omega arith) (omega (arith, p.below)) w)
-
-  pub pairs_within : (end' : ℕ) → end' ≤ end + pair_room * left → end' ≤ at + pair_room * lines
-  pairs_within end' g = omega (arith, p.within, p.few)

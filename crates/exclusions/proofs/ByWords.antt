@@ -2,12 +2,10 @@
 -- Assumes nothing.
 use mathlib.Core.Path.{◌≡◌, refl, sym, ap, ◌∙◌}
 use mathlib.Core.List.{List, ◌++◌}
-use Prim.Native.Nat.{ℕ, ◌+◌, ◌-◌, ◌*◌, ◌≤◌, ◌<◌, ◌^◌}
+use Prim.Native.Nat.{ℕ, ◌+◌, ◌-◌, ◌*◌, ◌≤◌, ◌<◌}
 use native.Mathlib.Omega.{arith}
 use native.Mathlib.Nat.{add-zero}
 use native.Mathlib.Numerals.{add-one}
-use mir.Syntax.{w64}
-use mir.Val.{Fits}
 use lib.ListN.{length, take, drop, length-append, length-take, length-drop, take-append-drop}
 use Rattle.rules.specs.Counting.{for_each}
 use Rattle.rules.proofs.Counting.{for_each-ext}
@@ -86,25 +84,6 @@ running_more room at head line first n now now' end end' tail i b r l w g k =
       few = omega arith;
       kept = k ∙ r.kept;
     }
-
--- room for the next line, and a tail that fits
-pub running_room : (room : List ℕ) (at head line first n : ℕ) (now : List ℕ) (end tail i : ℕ) → Running room at head line first n now end tail i → i < n
-    → at + pair_room * n ≤ length room → end + pair_room ≤ length now
-running_room room at head line first n now end tail i r l h = omega arith
-
-pub running_fits : (room : List ℕ) (at head line first n : ℕ) (now : List ℕ) (end tail i : ℕ) → Running room at head line first n now end tail i → i < n
-    → first + one_more * n < 2 ^ 64 → Fits w64 (tail + one_more)
-running_fits room at head line first n now end tail i r l h = record { fits = omega (arith, r.next) }
-
-pub running_end : (room : List ℕ) (at head line first n : ℕ) (now : List ℕ) (end tail i : ℕ) → Running room at head line first n now end tail i → n ≤ i
-    → Wrote room at (run_text head line first n) now end
-running_end room at head line first n now end tail i r h =
-    let e : i ≡ n = omega arith in
-    rw (← e) r.wrote
-
-pub running_within : (room : List ℕ) (at head line first n : ℕ) (now : List ℕ) (end tail i : ℕ) → Running room at head line first n now end tail i → n ≤ i
-    → end ≤ at + pair_room * n
-running_within room at head line first n now end tail i r h = omega (arith, r.within)
 
 -- ---- without a loop
 

@@ -103,12 +103,6 @@ module _ (room : List ℕ) (at p q n head beside : ℕ) (now : List ℕ) (end i 
       shifted : (now' : List ℕ) (end' : ℕ) → Wrote now end (for_each k (λ j. exclusion_text p (q + i + j))) now' end' → Wrote now end (for_each k (λ j. exclusion_text p (q + (i + j)))) now' end'
       shifted now' end' w = rw (for_each-ext k (λ j. exclusion_text p (q + (i + j))) (λ j. exclusion_text p (q + i + j)) (λ j b. ap (exclusion_text p) (omega arith))) w
 
-pub tens_end : (room : List ℕ) (at p q n head beside : ℕ) (now : List ℕ) (end i : ℕ) → TensPut room at p q n head beside now end i → n ≤ i → Wrote room at (row_text p q n) now end
-tens_end room at p q n head beside now end i t h = row_end room at p q n now end i t.row h
-
-pub tens_within : (room : List ℕ) (at p q n head beside : ℕ) (now : List ℕ) (end i : ℕ) → TensPut room at p q n head beside now end i → n ≤ i → end ≤ at + pair_room * n
-tens_within room at p q n head beside now end i t h = row_within room at p q n now end i t.row h
-
 -- ---- to the next number that ends in 0
 
 module _ (m : ℕ) (h : 100 ≤ m) (l : m ≤ max_n) (beside d : ℕ) (e : d ≡ length (decimal m)) where
@@ -142,6 +136,3 @@ wide_written room now at head beside d tail m n end w b f g h e k t =
     let ten : n ≡ 10 = omega arith in
     let wide : beside + d ≡ pair_room = omega (arith, digits_few m b) in
     run_written room now at head beside d tail m n end (rw (ten, wide) w) e t
-
-pub wide_within : (at n end : ℕ) → end ≤ at + pair_room * 10 → 10 ≤ n → end ≤ at + pair_room * n
-wide_within at n end h e = omega arith

@@ -44,10 +44,8 @@ pub fn put_row(out: &mut [u8], at: usize, p: usize, q: usize, n: usize) -> usize
     ensures within { result ≤ at + pair_room * n }
 {
     let mut end = at;
-    let mut i = 0;
-    while i < n {
+    for i in 0..n {
         end = put_line(out, end, p, q + i);
-        i += 1;
     }
     end
 }

@@ -32,6 +32,7 @@ pub fn put_exclusions(
     let mut i = first;
     let mut j = second;
     let mut left = lines;
+    // A `while`: it ends by the lines that are left, which fall by a whole row each turn.
     while count - j < left {
         end = put_row(out, end, base + i, base + j, count - j);
         left -= count - j;

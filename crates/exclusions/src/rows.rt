@@ -23,11 +23,7 @@ const SIGNS: usize = 6;
 fn run_of(m: usize, left: usize) -> usize
     ensures { result ≡ min (10 - m % 10) left }
 {
-    let ahead = TEN - m % TEN;
-    if ahead < left {
-        return ahead;
-    }
-    left
+    (TEN - m % TEN).min(left)
 }
 
 // n lines whose second numbers, from m on, differ in the last digit only.
@@ -57,6 +53,7 @@ fn put_tens(out: &mut [u8], at: usize, p: usize, q: usize, n: usize) -> usize
     let beside = digit_count(p) + SIGNS;
     let mut end = at;
     let mut i = 0;
+    // A `while`: each turn goes on by as many lines as it wrote.
     while i < n {
         let run = run_of(q + i, n - i);
         end = put_ten(out, end, head, beside, q + i, run);

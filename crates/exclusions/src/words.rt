@@ -35,11 +35,9 @@ pub fn put_run(out: &mut [u8], at: usize, head: u64, line: usize, first: u64, n:
 {
     let mut end = at;
     let mut tail = first;
-    let mut i = 0;
-    while i < n {
+    for _ in 0..n {
         end = put_words(out, end, head, line, tail);
         tail += ONE_MORE;
-        i += 1;
     }
     end
 }

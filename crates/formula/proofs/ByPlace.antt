@@ -1,12 +1,11 @@
 -- The place of a clause: its family by the counts before it, and in its family what the rules say of clause q of a step.
 -- Assumes nothing.
 use mathlib.Core.Path.{◌≡◌, refl, sym, ap}
-use mathlib.Core.Logic.{⊎_elim}
 use mathlib.Core.List.{List}
 use Prim.Native.Nat.{ℕ, suc, ◌+◌, ◌-◌, ◌*◌, ◌/◌, ◌%◌, ◌≤◌, ◌<◌}
 use native.Mathlib.Omega.{arith}
 use native.Mathlib.Numerals.{add-one}
-use lib.ListN.{length}
+use lib.ListN.{length, get_or}
 use Rattle.rules.specs.Limits.{max_variables, max_actions}
 use Rattle.rules.specs.Task.{Task, n, d, off, S, A, action}
 use Rattle.rules.specs.Problem.{Problem, problem}
@@ -14,7 +13,6 @@ use Rattle.rules.specs.Families.{C}
 use Rattle.rules.specs.Counts.{pairs_below}
 use Rattle.rules.specs.File.{task_of}
 use Rattle.rules.specs.Calls.{problem_of}
-use Rattle.rules.proofs.Bools.{below_or}
 use Rattle.rules.proofs.Pairs.{PairAt}
 use Rattle.rules.proofs.Places.{InRow, in_row}
 use Rattle.rules.proofs.ByNumber.{clauses_before, clause1, clause2, clause3, clause4, clause5, clause6, clause7, clause8}
@@ -25,7 +23,10 @@ use Rattle.formula.specs.declared.place.Place.{Place}
 use Rattle.formula.specs.declared.place.Place.TheVariants.{Start, Goal, AllValues, TwoValues, Precondition, Effect, Stays, TwoActions}
 use Rattle.formula.specs.Parts.{InPart}
 use Rattle.formula.specs.InFamily.{family_count, steps_of, width_of, count_of, IsAt, number_in, PlacedIn}
-use Rattle.formula.proofs.Counted.{before_none, before_next, before_all, count_parts}
+use Rattle.task.specs.declared.family.Family.{Family}
+use Rattle.task.specs.declared.family.Family.TheVariants.{StartValues, GoalPairs, AllValues as AllValuesFamily}
+use Rattle.task.specs.Families.{number_of_family, families_in_order}
+use Rattle.formula.proofs.Counted.{before_none, before_next, before_all, count_parts, family_number}
 
 -- ---- the family
 
@@ -33,41 +34,35 @@ module _ (file : List ℕ) (k c : ℕ) where
   abbrev T : Task
   T = task_of file
 
-  -- clause c is clause `before` of family f or of those behind it
-  pub record Ranked (f before count : ℕ) : Type 0 where
-    pub family_of : f < family_count
-    pub count_is : count ≡ count_of T k f
-    pub is : clauses_before T k f + before ≡ c
+  -- clause c is clause `before` of family i or of those behind it
+  pub record Ranked (i before : ℕ) : Type 0 where
+    pub is : clauses_before T k i + before ≡ c
     pub some : c < C (problem_of file k)
 
-  pub ranked_first : (count : ℕ) → count ≡ count_of T k 0 → c < C (problem_of file k) → Ranked 0 c count
-  ranked_first count e h = record { family_of = omega arith; count_is = e; is = omega (arith, before_none T k); some = h }
+  pub ranked_first : c < C (problem_of file k) → Ranked 0 c
+  ranked_first h = record { is = omega (arith, before_none T k); some = h }
 
-  module _ (f before count : ℕ) (r : Ranked f before count) where
-    -- where a family ends at or before c, another one follows it
-    pub ranked_more : count ≤ before → f + 1 < family_count
-    ranked_more h =
-        ⊎_elim (λ l. l)
-        (λ l. let last : suc f ≡ family_count = omega arith in absurd (omega (arith, before_next T k f, ap (clauses_before T k) last, before_all file k)))
-        (below_or (f + 1) family_count)
-
-    pub ranked_next : (next : ℕ) → count ≤ before → next ≡ count_of T k (f + 1) → Ranked (f + 1) (before - count) next
-    ranked_next next h e =
+  module _ (i before count : ℕ) (d : Family) (r : Ranked i before) (h : i < family_count) (e : count ≡ count_of T k (number_of_family (get_or families_in_order i d))) where
+    pub ranked_next : count ≤ before → Ranked (i + 1) (before - count)
+    ranked_next l =
         record {
-          family_of = ranked_more h;
-          count_is = e;
-          is = rw (add-one f) (omega (arith, before_next T k f, r.is, r.count_is));
+          is = rw (add-one i) (omega (arith, before_next T k i, r.is, e, ap (count_of T k) (family_number i d h)));
           some = r.some;
         }
 
-    pub ranked_here : before < count → before < count_of T k f
-    ranked_here h = omega (arith, r.count_is)
+  -- behind the last family is no clause
+  pub ranked_last : (i before : ℕ) → Ranked i before → i ≤ family_count → family_count ≤ i → ⊥
+  ranked_last i before r h l =
+      let all : i ≡ family_count = omega arith in absurd (omega (arith, r.is, r.some, ap (clauses_before T k) all, before_all file k))
 
 -- ---- the step, and the clause's number there
 
-module _ (file : List ℕ) (k c f r w : ℕ) (hf : f < family_count) (hr : r < count_of (task_of file) k f) (ew : w ≡ width_of (task_of file) f) where
+module _ (file : List ℕ) (k c r w : ℕ) (family : Family) (hr : r < count_of (task_of file) k (number_of_family family)) (ew : w ≡ width_of (task_of file) (number_of_family family)) where
+  abbrev f : ℕ
+  f = number_of_family family
+
   in_step : InRow (steps_of k f) w r
-  in_step = in_row (steps_of k f) w r (omega (arith, hr, ap (λ w. steps_of k f * w) ew, count_parts (task_of file) k f hf))
+  in_step = in_row (steps_of k f) w r (omega (arith, hr, ap (λ w. steps_of k f * w) ew, count_parts (task_of file) k family))
 
   pub some_width : 0 < w
   some_width = omega (arith, in_step.place)
@@ -87,16 +82,6 @@ module _ (file : List ℕ) (k c f r w : ℕ) (hf : f < family_count) (hr : r < c
 
 -- ---- the place, family by family
 
-module _ (file : List ℕ) (k f j s q : ℕ) (e : f ≡ j) where
-  pub step_in : s < steps_of k f → s < steps_of k j
-  step_in h = rw e at h
-
-  pub rest_in : q < width_of (task_of file) f → q < width_of (task_of file) j
-  rest_in h = rw e at h
-
-  pub placed_in : (place : Place) → PlacedIn file k j s q place → PlacedIn file k f s q place
-  placed_in place p = rw e p
-
 module _ (file : List ℕ) (k s q : ℕ) where
   abbrev P : Problem
   P = problem (task_of file) k
@@ -104,25 +89,28 @@ module _ (file : List ℕ) (k s q : ℕ) where
   abbrev Tk : Task
   Tk = task_of file
 
-  pub start_placed : (f : ℕ) → f ≡ 0 → s < steps_of k f → q < width_of Tk f → PlacedIn file k f s q (Start q)
+  pub start_placed : (family : Family) → family ≡ StartValues → s < steps_of k (number_of_family family) → q < width_of Tk (number_of_family family)
+      → PlacedIn file k (number_of_family family) s q (Start q)
   unfolding PlacedIn number_in problem_of steps_of width_of
-  start_placed f e hs hq =
+  start_placed family e hs hq =
       let h : s < 1 = rw e at hs in
       let none : s * n Tk ≡ 0 = let z : s ≡ 0 = omega arith in rw z (omega arith) in
       let l : q < n Tk = rw e at hq in
       rw e (record { inside = l; is = sym (clause1 P _ q l (omega arith)); number = omega arith })
 
-  pub goal_placed : (f : ℕ) → f ≡ 1 → s < steps_of k f → q < width_of Tk f → PlacedIn file k f s q (Goal q)
+  pub goal_placed : (family : Family) → family ≡ GoalPairs → s < steps_of k (number_of_family family) → q < width_of Tk (number_of_family family)
+      → PlacedIn file k (number_of_family family) s q (Goal q)
   unfolding PlacedIn number_in problem_of steps_of width_of
-  goal_placed f e hs hq =
+  goal_placed family e hs hq =
       let h : s < 1 = rw e at hs in
       let none : s * length Tk.goal ≡ 0 = let z : s ≡ 0 = omega arith in rw z (omega arith) in
       let l : q < length Tk.goal = rw e at hq in
       rw e (record { inside = l; is = sym (clause2 P _ q l (omega arith)); number = omega arith })
 
-  pub all_values_placed : (f : ℕ) → f ≡ 2 → s < steps_of k f → q < width_of Tk f → PlacedIn file k f s q (AllValues s q)
+  pub all_values_placed : (family : Family) → family ≡ AllValuesFamily → s < steps_of k (number_of_family family) → q < width_of Tk (number_of_family family)
+      → PlacedIn file k (number_of_family family) s q (AllValues s q)
   unfolding PlacedIn number_in problem_of steps_of width_of
-  all_values_placed f e hs hq =
+  all_values_placed family e hs hq =
       let h : s < suc k = rw e at hs in
       let l : q < n Tk = rw e at hq in
       rw e (record { inside = (h, l); is = sym (clause3 P _ s q h l refl); number = refl })
@@ -178,9 +166,6 @@ module _ (file : List ℕ) (k s q : ℕ) where
         }
 
   module _ (x before : ℕ) (i : InPart (n Tk) (d Tk) q x) (eb : before ≡ off Tk x) where
-    pub values_behind : before ≤ q
-    values_behind = omega (arith, i.begun)
-
     pub stays_placed : s < steps_of k 6 → PlacedIn file k 6 s q (Stays s x (q - before))
     unfolding PlacedIn number_in problem_of steps_of width_of
     stays_placed hs =

@@ -7,12 +7,12 @@ use native.Mathlib.Omega.{arith}
 use native.Mathlib.Numerals.{add-one}
 use mir.Syntax.{w64}
 use mir.Val.{Fits}
-use lib.ListN.{length, get_or}
+use lib.ListN.{get_or}
 use Rattle.rules.specs.Counting.{sum_to}
 use Rattle.rules.specs.Limits.{max_variables, max_actions, max_horizon, max_c}
-use Rattle.rules.specs.Task.{Task, n, S, A}
+use Rattle.rules.specs.Task.{Task, n, A}
 use Rattle.rules.specs.Families.{C}
-use Rattle.rules.specs.Counts.{pairs_below, count_table}
+use Rattle.rules.specs.Counts.{count_table}
 use Rattle.rules.specs.File.{task_of}
 use Rattle.rules.specs.Calls.{problem_of}
 use Rattle.rules.proofs.Counting.{sum_to-part}
@@ -22,86 +22,10 @@ use Rattle.rules.proofs.ByNumber.{clauses_before}
 use Rattle.rules.proofs.Valid.{WellFormed}
 use Rattle.rules.proofs.Files.{accepted_well_formed}
 use Rattle.task.specs.Index.{Indexed, value_pairs_before, preconditions_before, effects_before}
+use Rattle.task.specs.declared.family.Family.{Family}
+use Rattle.task.specs.declared.family.Family.TheVariants.{StartValues, GoalPairs, AllValues, TwoValues, Preconditions, Effects, ValuesStay, TwoActions}
+use Rattle.task.specs.Families.{number_of_family, families_in_order}
 use Rattle.formula.specs.InFamily.{family_count, steps_of, width_of, count_of}
-
--- ---- steps
-
-pub steps_one : (k f : ℕ) → f < 2 → 1 ≡ steps_of k f
-unfolding steps_of
-steps_one k zero h = refl
-steps_one k (suc zero) h = refl
-steps_one k (suc (suc f)) h = absurd (omega arith)
-
-pub steps_more : (k f : ℕ) → 2 ≤ f → f < 4 → k + 1 ≡ steps_of k f
-unfolding steps_of
-steps_more k zero h l = absurd (omega arith)
-steps_more k (suc zero) h l = absurd (omega arith)
-steps_more k (suc (suc zero)) h l = add-one k
-steps_more k (suc (suc (suc zero))) h l = add-one k
-steps_more k (suc (suc (suc (suc f)))) h l = absurd (omega arith)
-
-pub steps_all : (k f : ℕ) → 4 ≤ f → f < family_count → k ≡ steps_of k f
-unfolding steps_of
-steps_all k (suc (suc (suc (suc zero)))) h l = refl
-steps_all k (suc (suc (suc (suc (suc zero))))) h l = refl
-steps_all k (suc (suc (suc (suc (suc (suc zero)))))) h l = refl
-steps_all k (suc (suc (suc (suc (suc (suc (suc zero))))))) h l = refl
-steps_all k (suc (suc (suc (suc (suc (suc (suc (suc f)))))))) h l = absurd (omega arith)
-steps_all k zero h l = absurd (omega arith)
-steps_all k (suc zero) h l = absurd (omega arith)
-steps_all k (suc (suc zero)) h l = absurd (omega arith)
-steps_all k (suc (suc (suc zero))) h l = absurd (omega arith)
-
--- the family that is none of the first seven
-pub last_family : (f : ℕ) → f < family_count → (f ≡ 0 → ⊥) → (f ≡ 1 → ⊥) → (f ≡ 2 → ⊥) → (f ≡ 3 → ⊥) → (f ≡ 4 → ⊥) → (f ≡ 5 → ⊥) → (f ≡ 6 → ⊥) → f ≡ 7
-last_family zero h n0 n1 n2 n3 n4 n5 n6 = absurd (n0 refl)
-last_family (suc zero) h n0 n1 n2 n3 n4 n5 n6 = absurd (n1 refl)
-last_family (suc (suc zero)) h n0 n1 n2 n3 n4 n5 n6 = absurd (n2 refl)
-last_family (suc (suc (suc zero))) h n0 n1 n2 n3 n4 n5 n6 = absurd (n3 refl)
-last_family (suc (suc (suc (suc zero)))) h n0 n1 n2 n3 n4 n5 n6 = absurd (n4 refl)
-last_family (suc (suc (suc (suc (suc zero))))) h n0 n1 n2 n3 n4 n5 n6 = absurd (n5 refl)
-last_family (suc (suc (suc (suc (suc (suc zero)))))) h n0 n1 n2 n3 n4 n5 n6 = absurd (n6 refl)
-last_family (suc (suc (suc (suc (suc (suc (suc zero))))))) h n0 n1 n2 n3 n4 n5 n6 = refl
-last_family (suc (suc (suc (suc (suc (suc (suc (suc f)))))))) h n0 n1 n2 n3 n4 n5 n6 = absurd (too_many f h)
-  where
-    too_many : (f : ℕ) → suc (suc (suc (suc (suc (suc (suc (suc f))))))) < family_count → ⊥
-    too_many f h = omega arith
-
--- ---- how many at a step, family by family
-
-module _ (T : Task) (f r : ℕ) where
-  pub width_0 : f ≡ 0 → r ≡ n T → r ≡ width_of T f
-  unfolding width_of
-  width_0 e h = rw e h
-
-  pub width_1 : f ≡ 1 → r ≡ length T.goal → r ≡ width_of T f
-  unfolding width_of
-  width_1 e h = rw e h
-
-  pub width_2 : f ≡ 2 → r ≡ n T → r ≡ width_of T f
-  unfolding width_of
-  width_2 e h = rw e h
-
-  pub width_3 : (m : ℕ) → f ≡ 3 → m ≡ n T → r ≡ value_pairs_before T m → r ≡ width_of T f
-  unfolding width_of
-  width_3 m e d h = rw e (h ∙ ap (value_pairs_before T) d)
-
-  pub width_4 : (m : ℕ) → f ≡ 4 → m ≡ A T → r ≡ preconditions_before T m → r ≡ width_of T f
-  unfolding width_of
-  width_4 m e d h = rw e (h ∙ ap (preconditions_before T) d)
-
-  pub width_5 : (m : ℕ) → f ≡ 5 → m ≡ A T → r ≡ effects_before T m → r ≡ width_of T f
-  unfolding width_of
-  width_5 m e d h = rw e (h ∙ ap (effects_before T) d)
-
-  pub width_6 : f ≡ 6 → r ≡ S T → r ≡ width_of T f
-  unfolding width_of
-  width_6 e h = rw e h
-
-  pub width_7 : (m : ℕ) → f < family_count → (f ≡ 0 → ⊥) → (f ≡ 1 → ⊥) → (f ≡ 2 → ⊥) → (f ≡ 3 → ⊥) → (f ≡ 4 → ⊥) → (f ≡ 5 → ⊥) → (f ≡ 6 → ⊥)
-      → m ≡ A T → r ≡ pairs_below m → r ≡ width_of T f
-  unfolding width_of
-  width_7 m l n0 n1 n2 n3 n4 n5 n6 d h = rw (last_family f l n0 n1 n2 n3 n4 n5 n6) (h ∙ ap pairs_below d)
 
 module _ (file index : List ℕ) (ix : Indexed file index) (m : ℕ) where
   pub variables_few : m ≡ n (task_of file) → m ≤ max_variables
@@ -111,20 +35,42 @@ module _ (file index : List ℕ) (ix : Indexed file index) (m : ℕ) where
   actions_few e = omega (arith, (accepted_well_formed file ix.accepted).actions_few)
 
 -- steps and width make the count of the table
-pub count_parts : (T : Task) (k f : ℕ) → f < family_count → steps_of k f * width_of T f ≡ count_of T k f
+pub count_parts : (T : Task) (k : ℕ) (family : Family) → steps_of k (number_of_family family) * width_of T (number_of_family family) ≡ count_of T k (number_of_family family)
 unfolding steps_of width_of count_of count_table value_pairs_before preconditions_before effects_before
-count_parts T k zero h = omega arith
-count_parts T k (suc zero) h = omega arith
-count_parts T k (suc (suc zero)) h = refl
-count_parts T k (suc (suc (suc zero))) h = refl
-count_parts T k (suc (suc (suc (suc zero)))) h = refl
-count_parts T k (suc (suc (suc (suc (suc zero))))) h = refl
-count_parts T k (suc (suc (suc (suc (suc (suc zero)))))) h = refl
-count_parts T k (suc (suc (suc (suc (suc (suc (suc zero))))))) h = refl
-count_parts T k (suc (suc (suc (suc (suc (suc (suc (suc f)))))))) h = absurd (omega arith)
+count_parts T k StartValues = omega arith
+count_parts T k GoalPairs = omega arith
+count_parts T k AllValues = refl
+count_parts T k TwoValues = refl
+count_parts T k Preconditions = refl
+count_parts T k Effects = refl
+count_parts T k ValuesStay = refl
+count_parts T k TwoActions = refl
 
-pub count_made : (T : Task) (k f s w : ℕ) → f < family_count → s ≡ steps_of k f → w ≡ width_of T f → s * w ≡ count_of T k f
-count_made T k f s w h es ew = rw (es, ew) (count_parts T k f h)
+pub count_made : (T : Task) (k : ℕ) (family : Family) (s w : ℕ) → s ≡ steps_of k (number_of_family family) → w ≡ width_of T (number_of_family family)
+    → s * w ≡ count_of T k (number_of_family family)
+count_made T k family s w es ew = rw (es, ew) (count_parts T k family)
+
+pub family_below : (family : Family) → number_of_family family < family_count
+family_below StartValues = omega arith
+family_below GoalPairs = omega arith
+family_below AllValues = omega arith
+family_below TwoValues = omega arith
+family_below Preconditions = omega arith
+family_below Effects = omega arith
+family_below ValuesStay = omega arith
+family_below TwoActions = omega arith
+
+-- family i of all families in order has the number i
+pub family_number : (i : ℕ) (d : Family) → i < family_count → number_of_family (get_or families_in_order i d) ≡ i
+family_number zero d h = refl
+family_number (suc zero) d h = refl
+family_number (suc (suc zero)) d h = refl
+family_number (suc (suc (suc zero))) d h = refl
+family_number (suc (suc (suc (suc zero)))) d h = refl
+family_number (suc (suc (suc (suc (suc zero))))) d h = refl
+family_number (suc (suc (suc (suc (suc (suc zero)))))) d h = refl
+family_number (suc (suc (suc (suc (suc (suc (suc zero))))))) d h = refl
+family_number (suc (suc (suc (suc (suc (suc (suc (suc i)))))))) d h = absurd (omega arith)
 
 -- ---- the running sum of the counts
 
@@ -148,11 +94,12 @@ module _ (file : List ℕ) (k : ℕ) where
   unfolding clauses_before count_of
   within f h = omega (arith, sum_to-part family_count (λ i. get_or (count_table T k) i 0) f h, before_all)
 
-  pub sum_next : (f sum count : ℕ) → sum ≡ clauses_before T k f → count ≡ count_of T k f → sum + count ≡ clauses_before T k (f + 1)
-  sum_next f sum count e ec = rw (add-one f) (omega (arith, before_next T k f))
+  pub sum_next : (i sum count : ℕ) (d : Family) → i < family_count → sum ≡ clauses_before T k i → count ≡ count_of T k (number_of_family (get_or families_in_order i d))
+      → sum + count ≡ clauses_before T k (i + 1)
+  sum_next i sum count d h e ec = rw (add-one i) (omega (arith, e, before_next T k i, ec, ap (count_of T k) (family_number i d h)))
 
-  pub sum_all : (f sum : ℕ) → f ≤ family_count → family_count ≤ f → sum ≡ clauses_before T k f → sum ≡ C (problem_of file k)
-  sum_all f sum h l e = let all : f ≡ family_count = omega arith in e ∙ ap (clauses_before T k) all ∙ before_all
+  pub sum_all : (i sum : ℕ) → i ≤ family_count → family_count ≤ i → sum ≡ clauses_before T k i → sum ≡ C (problem_of file k)
+  sum_all i sum h l e = let all : i ≡ family_count = omega arith in e ∙ ap (clauses_before T k) all ∙ before_all
 
   module _ (index : List ℕ) (ix : Indexed file index) (hk : k ≤ max_horizon) where
     few : WellFormed T
@@ -162,8 +109,10 @@ module _ (file : List ℕ) (k : ℕ) where
     unfolding problem_of
     clauses_few = C-bound T few k hk
 
-    pub count_fits : (f s w : ℕ) → f < family_count → s ≡ steps_of k f → w ≡ width_of T f → Fits w64 (s * w)
-    count_fits f s w h es ew = record { fits = omega (arith, count_made T k f s w h es ew, within f h, clauses_few) }
+    pub count_fits : (family : Family) (s w : ℕ) → s ≡ steps_of k (number_of_family family) → w ≡ width_of T (number_of_family family) → Fits w64 (s * w)
+    count_fits family s w es ew =
+        record { fits = omega (arith, count_made T k family s w es ew, within (number_of_family family) (family_below family), clauses_few) }
 
-    pub sum_fits : (f sum count : ℕ) → f < family_count → sum ≡ clauses_before T k f → count ≡ count_of T k f → Fits w64 (sum + count)
-    sum_fits f sum count h e ec = record { fits = omega (arith, within f h, clauses_few) }
+    pub sum_fits : (i sum count : ℕ) (d : Family) → i < family_count → sum ≡ clauses_before T k i → count ≡ count_of T k (number_of_family (get_or families_in_order i d))
+        → Fits w64 (sum + count)
+    sum_fits i sum count d h e ec = record { fits = omega (arith, e, ec, ap (count_of T k) (family_number i d h), within i h, clauses_few) }

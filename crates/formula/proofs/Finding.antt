@@ -2,9 +2,8 @@
 -- Assumes nothing.
 use mathlib.Core.Path.{◌≡◌, ap, ◌∙◌}
 use mathlib.Core.List.{List}
-use Prim.Native.Nat.{ℕ, suc, ◌+◌, ◌-◌, ◌*◌, ◌/◌, ◌≤◌, ◌<◌}
+use Prim.Native.Nat.{ℕ, suc, ◌+◌, ◌*◌, ◌≤◌, ◌<◌}
 use native.Mathlib.Omega.{arith}
-use native.Mathlib.Nat.{mul-le-mul_left}
 use lib.ListN.{length, get_or}
 use Rattle.rules.specs.Counting.{sum_to}
 use Rattle.rules.specs.Counts.{pairs_below}
@@ -27,11 +26,6 @@ column_read index at width i r e = e
 module _ (index : List ℕ) (at width rows q : ℕ) (h : Spans index at width rows q) where
   pub row_start : Bracket (column index at width) rows q 0 rows
   row_start = bracket_start (column index at width) rows q h.from h.to
-
-  pub middle_room : (lo hi : ℕ) → Bracket (column index at width) rows q lo hi → 1 < hi - lo → at + width * (lo + (hi - lo) / 2) < length index
-  middle_room lo hi b l =
-      let m : lo + (hi - lo) / 2 ≤ rows = omega (arith, b.within) in
-      omega (arith, h.room, mul-le-mul_left width m)
 
 -- ---- a column that is a running sum
 

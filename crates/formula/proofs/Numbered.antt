@@ -45,8 +45,5 @@ pub action_same : (file : List ℕ) (k r s a b : ℕ) → b ≡ a → r ≡ acti
 unfolding action_number
 action_same file k r s a b eb e = e ∙ rw eb
 
-pub variable_there : (T : Task) (x y : ℕ) → y ≡ x → x < n T → y < n T
-variable_there T x y e h = rw e h
-
 pub value_inside : (T : Task) (x v y w : ℕ) → y ≡ x → w ≡ v → v < d T x → w < d T y
 value_inside T x v y w ey ew h = rw (ey, ew) h

@@ -80,14 +80,6 @@ module _ (file : List ℕ) (k : ℕ) where
   abbrev P : Problem
   P = problem Tk k
 
-  module _ (place : Place) (lent out : List ℤ) where
-    -- one arm of a match
-    pub arm_ready : (p : Place) (room : ℕ) → place ≡ p → Ready file k place room → Ready file k p room
-    arm_ready p room e r = rw e at r
-
-    pub arm_written : (p : Place) → place ≡ p → out ≡ clause_written file k p lent → out ≡ clause_written file k place lent
-    arm_written p e h = rw e h
-
   module _ (place : Place) where
     pub start_count : (x : ℕ) → place ≡ Start x → 1 ≡ literal_count file k place
     unfolding literal_count

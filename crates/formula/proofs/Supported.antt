@@ -4,20 +4,23 @@ use mathlib.Core.Path.{◌≡◌, refl, sym, ap, ◌∙◌}
 use mathlib.Core.Logic.{⊎_elim}
 use mathlib.Core.Bool.{Bool, true, false, ◌&&◌}
 use mathlib.Core.List.{List, [], ◌∷◌, ◌++◌}
-use Prim.Native.Nat.{ℕ, suc, ◌+◌, ◌≤◌, ◌<◌}
+use Prim.Native.Nat.{ℕ, zero, suc, ◌+◌, ◌≤◌, ◌<◌}
 use native.Mathlib.Omega.{arith}
 use native.Mathlib.Numerals.{add-one}
-use borrow.Author.Tests.{eq-eqb, ne_eqb}
 use lib.Dec.{eqb}
 use lib.IntN.{ℤ}
-use lib.ListN.{length, length-append}
-use Rattle.rules.specs.Counting.{first, for_each}
+use lib.ListN.{length, get_or, length-append}
+use Rattle.std.specs.List.{list_any, filter, range_with_len}
+use Rattle.std.proofs.lemmas.List.Elements.{filter-append}
+use Rattle.std.proofs.lemmas.List.FromFn.{length-range_with_len}
+use Rattle.std.proofs.lemmas.List.Sums.{length-filter, count_by-le-length}
+use Rattle.rules.specs.Counting.{any, for_each}
 use Rattle.rules.specs.Task.{Task, A, pair, action}
 use Rattle.rules.specs.Problem.{Problem}
 use Rattle.rules.specs.Numbering.{action_number}
 use Rattle.rules.specs.Families.{plus, supporters}
-use Rattle.rules.proofs.Bools.{either, clash}
-use Rattle.rules.proofs.Counting.{any_at, any_where, first_before, sum_to-part, length-for_each}
+use Rattle.rules.proofs.Bools.{either}
+use Rattle.rules.proofs.Counting.{sum_to-part, length-for_each}
 use Rattle.formula.specs.Front.{written, gives_by, is_given, supporter, supporters_to}
 use Rattle.formula.proofs.Writing.{written_on, written_none, length-written}
 
@@ -33,35 +36,33 @@ module _ (T : Task) (a b : ℕ) (eb : b ≡ a) where
   pub effects_there : (m : ℕ) → m ≡ length (action T b).effects → m ≡ length (action T a).effects
   effects_there m e = e ∙ rw eb
 
-  pub effect_below : (m i : ℕ) → m ≡ length (action T b).effects → i < m → i < length (action T a).effects
-  effect_below m i e h = omega (arith, effects_there m e)
-
   pub gives_pair : (x v i y w : ℕ) (r : Bool) → r ≡ (eqb y x && eqb w v) → y ≡ (pair (action T b).effects i).variable
       → w ≡ (pair (action T b).effects i).value → r ≡ gives_by T a x v i
   unfolding gives_by
   gives_pair x v i y w r e ey ew = e ∙ rw (ey, ew, eb)
 
-module _ (x v y w : ℕ) where
-  pub pair_other : (y' : ℕ) → y' ≡ y → (y' ≡ x → ⊥) → false ≡ (eqb y x && eqb w v)
-  pair_other y' e h = rw (← e, ne_eqb y' x h)
+-- a test of places asked at each place of a list is the test of its elements asked of the list
+any_by_place : {X : Type 0} (f : X → Bool) (d : X) (g : ℕ → Bool) (base : ℕ) → (xs : List X) → ((i : ℕ) → i < length xs → g (base + i) ≡ f (get_or xs i d))
+    → list_any g (range_with_len base (length xs)) ≡ any f xs
+unfolding any
+any_by_place f d g base [] h = refl
+any_by_place f d g base (x ∷ xs) h =
+    let here : g base ≡ f x = ap g (omega arith) ∙ h 0 (omega arith) in
+    let behind : list_any g (range_with_len (base + 1) (length xs)) ≡ any f xs =
+    any_by_place f d g (base + 1) xs (λ i l. ap g (omega arith) ∙ h (suc i) (omega arith)) in rw (here, behind)
 
-  pub pair_value : (y' w' : ℕ) → y' ≡ y → w' ≡ w → y' ≡ x → eqb w' v ≡ (eqb y x && eqb w v)
-  pair_value y' w' e ew h = rw (← e, ew, eq-eqb y' x h)
+-- a range counted from the back
+range_behind : (a n : ℕ) → range_with_len a (suc n) ≡ range_with_len a n ++ ((a + n) ∷ [])
+range_behind a zero = ap (λ k. k ∷ []) (omega arith)
+range_behind a (suc n) = ap (λ l. a ∷ l) (range_behind (a + 1) n ∙ ap (λ k. range_with_len (a + 1) n ++ (k ∷ [])) (omega arith))
+
+range_back : (n : ℕ) → range_with_len 0 (suc n) ≡ range_with_len 0 n ++ (n ∷ [])
+range_back n = range_behind 0 n ∙ ap (λ k. range_with_len 0 n ++ (k ∷ [])) (omega arith)
 
 module _ (T : Task) (a x v : ℕ) where
-  pub given_by : (i : ℕ) (b : Bool) → i < length (action T a).effects → b ≡ gives_by T a x v i → b ≡ true → true ≡ is_given T a x v
+  pub given_by_any : (m : ℕ) → m ≡ length (action T a).effects → list_any (gives_by T a x v) (range_with_len 0 m) ≡ is_given T a x v
   unfolding gives_by is_given
-  given_by i b h e t = sym (any_at _ (action T a).effects (record { variable = 0; value = 0 }) i h (sym e ∙ t))
-
-  pub given_by_none : (i m : ℕ) → m ≡ length (action T a).effects → m ≤ i → first i (gives_by T a x v) ≡ i → false ≡ is_given T a x v
-  unfolding gives_by is_given
-  given_by_none i m em h f =
-      ⊎_elim
-      (λ t.
-      let at = any_where _ (action T a).effects (record { variable = 0; value = 0 }) t in
-      clash at.2 (first_before i (gives_by T a x v) at.0 (omega (arith, at.1))))
-      (λ t. sym t)
-      (either (is_given T a x v))
+  given_by_any m e = rw e (any_by_place _ (record { variable = 0; value = 0 }) (gives_by T a x v) 0 (action T a).effects (λ i l. let none : 0 + i ≡ i = omega arith in ap (gives_by T a x v) none))
 
 -- ---- the literals of the actions that do
 
@@ -102,7 +103,7 @@ module _ (P : Problem) (s x v : ℕ) where
   supporters_all m e = rw e
 
   -- a count of them
-  pub count_none : 0 ≡ length (supporters_to P s x v 0)
+  count_none : 0 ≡ length (supporters_to P s x v 0)
   unfolding supporters_to for_each
   count_none = refl
 
@@ -113,13 +114,21 @@ module _ (P : Problem) (s x v : ℕ) where
   length-next : (a : ℕ) → length (supporters_to P s x v (suc a)) ≡ length (supporters_to P s x v a) + length (supporter P s x v a)
   length-next a = ap length (supporters_next a) ∙ length-append (supporters_to P s x v a) (supporter P s x v a)
 
-  pub count_next : (a count more : ℕ) → count ≡ length (supporters_to P s x v a) → more ≡ length (supporter P s x v a)
-      → count + more ≡ length (supporters_to P s x v (a + 1))
-  count_next a count more e em = rw (add-one a) (omega (arith, length-next a))
+  count_kept : (m : ℕ) → length (filter (λ a. is_given P.task a x v) (range_with_len 0 m)) ≡ length (supporters_to P s x v m)
+  count_kept zero = count_none
+  count_kept (suc m) =
+      let p : ℕ → Bool = λ a. is_given P.task a x v in
+      let last : length (filter p (m ∷ [])) ≡ length (supporter P s x v m) =
+      ⊎_elim (λ t. rw t (given_one m (p m) refl t)) (λ t. rw t (given_none m (p m) refl t)) (either (p m)) in
+      ap (λ l. length (filter p l)) (range_back m) ∙ ap length (filter-append p (range_with_len 0 m) (m ∷ []))
+      ∙ length-append (filter p (range_with_len 0 m)) (filter p (m ∷ [])) ∙ omega (arith, count_kept m, last, length-next m)
 
-  pub count_all : (a m count : ℕ) → m ≡ A P.task → m ≤ a → a ≤ m → count ≡ length (supporters_to P s x v a) → count ≡ length (supporters P s x v)
-  count_all a m count em h l e =
-      let all : a ≡ A P.task = omega arith in e ∙ ap length (supporters_all a all)
+  module _ (m count : ℕ) (em : m ≡ A P.task) (e : count ≡ length (filter (λ a. is_given P.task a x v) (range_with_len 0 m))) where
+    pub count_all : count ≡ length (supporters P s x v)
+    count_all = e ∙ count_kept m ∙ ap length (supporters_all m em)
+
+    pub count_few : count ≤ A P.task
+    count_few = omega (arith, length-filter (λ a. is_given P.task a x v) (range_with_len 0 m), count_by-le-length (λ a. is_given P.task a x v) (range_with_len 0 m), length-range_with_len 0 m)
 
   -- those of a part of the actions are not more than all
   part : (a : ℕ) → a < A P.task → length (supporters_to P s x v a) + length (supporter P s x v a) ≤ length (supporters P s x v)

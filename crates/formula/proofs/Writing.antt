@@ -74,8 +74,5 @@ written_on lent out next at here ls ms e eh en =
 pub two_written : (lent out next : List ℤ) (l m : Literal) → out ≡ written lent 0 (l ∷ []) → next ≡ written out 1 (m ∷ []) → next ≡ written lent 0 (l ∷ m ∷ [])
 two_written lent out next l m e en = written_on lent out next 0 1 (l ∷ []) (m ∷ []) e refl en
 
-pub one_long : (lent out : List ℤ) (l : Literal) → 2 ≤ length lent → out ≡ written lent 0 (l ∷ []) → 1 < length out
-one_long lent out l h e = omega (arith, length-written lent out 0 (l ∷ []) (omega arith) e)
-
 pub two_long : (lent out : List ℤ) (l m : Literal) → 2 ≤ length lent → out ≡ written lent 0 (l ∷ m ∷ []) → length out ≡ length lent
 two_long lent out l m h e = length-written lent out 0 (l ∷ m ∷ []) (omega arith) e

@@ -52,10 +52,8 @@ fn put_all_values(file: &[u8], index: &[u16], horizon: usize, s: usize, x: usize
     ensures { out.new ≡ clause_written file.now horizon (Place.AllValues s x) out.old }
 {
     let count = size(file, x);
-    let mut v = 0;
-    while v < count {
+    for v in 0..count {
         put_plus(out, v, value_at(file, index, horizon, s, x, v));
-        v += 1;
     }
 }
 

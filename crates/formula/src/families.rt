@@ -1,67 +1,60 @@
-// The families by their number f, from 0: at how many steps each has clauses, how many at a step and in all; C.
+// The families: at how many steps each has clauses, how many at a step and in all; C.
 ghost use Rattle.std.specs.Prelude.{◌≡◌, ◌≤◌, ◌<◌};
 ghost use Rattle.rules.specs.Limits.{max_horizon};
 ghost use Rattle.rules.specs.Families.{C};
 ghost use Rattle.rules.specs.File.{task_of};
 ghost use Rattle.rules.specs.Calls.{problem_of};
 ghost use Rattle.task.specs.Index.{Indexed};
-ghost use Rattle.formula.specs.InFamily.{family_count, steps_of, width_of, count_of};
+ghost use Rattle.task.specs.Families.{number_of_family};
+ghost use Rattle.formula.specs.InFamily.{steps_of, width_of, count_of};
 
 use pairs::pairs_below;
 use task::asked::{goals, variables};
+use task::family::{FAMILIES, Family};
 use task::index::{actions, effects_before, preconditions_before, value_pairs_before, values};
 
-pub const FAMILIES: usize = 8;
-
-// At how many steps family f has clauses.
-fn steps(horizon: usize, f: usize) -> usize
-    requires { (horizon ≤ max_horizon) × (f < family_count) }
-    ensures { result ≡ steps_of horizon f }
+// At how many steps a family has clauses.
+#[tactic(auto, unfolding(crate::specs::InFamily::steps_of))]
+fn steps(horizon: usize, family: Family) -> usize
+    requires { horizon ≤ max_horizon }
+    ensures { result ≡ steps_of horizon (number_of_family family) }
 {
-    if f < 2 {
-        return 1;
+    match family {
+        Family::StartValues => 1,
+        Family::GoalPairs => 1,
+        Family::AllValues => horizon + 1,
+        Family::TwoValues => horizon + 1,
+        Family::Preconditions => horizon,
+        Family::Effects => horizon,
+        Family::ValuesStay => horizon,
+        Family::TwoActions => horizon,
     }
-    if f < 4 {
-        return horizon + 1;
-    }
-    horizon
 }
 
-// How many clauses family f has at a step.
-pub fn width(file: &[u8], index: &[u16], f: usize) -> usize
-    requires { Indexed file.now index.now × (f < family_count) }
-    ensures { result ≡ width_of (task_of file.now) f }
+// How many clauses a family has at a step.
+#[tactic(auto, unfolding(crate::specs::InFamily::width_of))]
+pub fn width(file: &[u8], index: &[u16], family: Family) -> usize
+    requires { Indexed file.now index.now }
+    ensures { result ≡ width_of (task_of file.now) (number_of_family family) }
 {
-    if f == 0 {
-        return variables(file);
+    match family {
+        Family::StartValues => variables(file),
+        Family::GoalPairs => goals(file),
+        Family::AllValues => variables(file),
+        Family::TwoValues => value_pairs_before(file, index, variables(file)),
+        Family::Preconditions => preconditions_before(file, index, actions(file, index)),
+        Family::Effects => effects_before(file, index, actions(file, index)),
+        Family::ValuesStay => values(file, index),
+        Family::TwoActions => pairs_below(actions(file, index)),
     }
-    if f == 1 {
-        return goals(file);
-    }
-    if f == 2 {
-        return variables(file);
-    }
-    if f == 3 {
-        return value_pairs_before(file, index, variables(file));
-    }
-    if f == 4 {
-        return preconditions_before(file, index, actions(file, index));
-    }
-    if f == 5 {
-        return effects_before(file, index, actions(file, index));
-    }
-    if f == 6 {
-        return values(file, index);
-    }
-    pairs_below(actions(file, index))
 }
 
-// How many clauses family f has.
-pub fn count_of(file: &[u8], index: &[u16], horizon: usize, f: usize) -> usize
-    requires { Indexed file.now index.now × (horizon ≤ max_horizon) × (f < family_count) }
-    ensures { result ≡ count_of (task_of file.now) horizon f }
+// How many clauses a family has.
+pub fn count_of(file: &[u8], index: &[u16], horizon: usize, family: Family) -> usize
+    requires { Indexed file.now index.now × (horizon ≤ max_horizon) }
+    ensures { result ≡ count_of (task_of file.now) horizon (number_of_family family) }
 {
-    steps(horizon, f) * width(file, index, f)
+    steps(horizon, family) * width(file, index, family)
 }
 
 // C.
@@ -69,11 +62,9 @@ pub fn count_clauses(file: &[u8], index: &[u16], horizon: usize) -> usize
     requires { Indexed file.now index.now × (horizon ≤ max_horizon) }
     ensures { result ≡ C (problem_of file.now horizon) }
 {
-    let mut f = 0;
     let mut sum = 0;
-    while f < FAMILIES {
-        sum += count_of(file, index, horizon, f);
-        f += 1;
+    for family in FAMILIES {
+        sum += count_of(file, index, horizon, family);
     }
     sum
 }

@@ -6,7 +6,8 @@ ghost use Rattle.rules.specs.File.{task_of};
 ghost use Rattle.rules.specs.Calls.{problem_of};
 ghost use Rattle.rules.proofs.ByNumber.{clauses_before};
 ghost use Rattle.task.specs.Index.{Indexed};
-ghost use Rattle.formula.specs.InFamily.{family_count, steps_of, width_of, count_of, IsAt, PlacedIn};
+ghost use Rattle.task.specs.Families.{number_of_family};
+ghost use Rattle.formula.specs.InFamily.{steps_of, width_of, count_of, IsAt, PlacedIn};
 
 use crate::families::{count_of, width};
 use crate::place::Place;
@@ -15,30 +16,31 @@ use crate::search::{
 };
 use pairs::pair_of;
 use task::asked::size;
+use task::family::{FAMILIES, Family};
 use task::index::{actions, effects_before, offset, preconditions_before, value_pairs_before};
 
 // A family, and how many of its clauses stand before one.
 #[derive(Clone, Copy)]
 pub struct Rank {
-    pub family: usize,
+    pub family: Family,
     pub before: usize,
 }
 
 // The family of clause c.
 fn family_of(file: &[u8], index: &[u16], horizon: usize, c: usize) -> Rank
     requires { Indexed file.now index.now × (horizon ≤ max_horizon) × (c < C (problem_of file.now horizon)) }
-    ensures { (result.family < family_count) × (result.before < count_of (task_of file.now) horizon result.family)
-        × (clauses_before (task_of file.now) horizon result.family + result.before ≡ c) }
+    ensures { (result.before < count_of (task_of file.now) horizon (number_of_family result.family))
+        × (clauses_before (task_of file.now) horizon (number_of_family result.family) + result.before ≡ c) }
 {
-    let mut family = 0;
     let mut before = c;
-    let mut count = count_of(file, index, horizon, 0);
-    while count <= before {
+    for family in FAMILIES {
+        let count = count_of(file, index, horizon, family);
+        if before < count {
+            return Rank { family, before };
+        }
         before -= count;
-        family += 1;
-        count = count_of(file, index, horizon, family);
     }
-    Rank { family, before }
+    unreachable!()
 }
 
 // Two values of a variable.
@@ -87,33 +89,21 @@ fn two_actions(file: &[u8], index: &[u16], horizon: usize, s: usize, q: usize) -
     Place::TwoActions(s, pair.first, pair.second)
 }
 
-// Clause q of step s of family f.
-fn place_in(file: &[u8], index: &[u16], horizon: usize, f: usize, s: usize, q: usize) -> Place
-    requires { Indexed file.now index.now × (f < family_count) × (s < steps_of horizon f) × (q < width_of (task_of file.now) f) }
-    ensures { PlacedIn file.now horizon f s q result }
+// Clause q of step s of a family.
+fn place_in(file: &[u8], index: &[u16], horizon: usize, family: Family, s: usize, q: usize) -> Place
+    requires { Indexed file.now index.now × (s < steps_of horizon (number_of_family family)) × (q < width_of (task_of file.now) (number_of_family family)) }
+    ensures { PlacedIn file.now horizon (number_of_family family) s q result }
 {
-    if f == 0 {
-        return Place::Start(q);
+    match family {
+        Family::StartValues => Place::Start(q),
+        Family::GoalPairs => Place::Goal(q),
+        Family::AllValues => Place::AllValues(s, q),
+        Family::TwoValues => two_values(file, index, horizon, s, q),
+        Family::Preconditions => precondition(file, index, horizon, s, q),
+        Family::Effects => effect(file, index, horizon, s, q),
+        Family::ValuesStay => stays(file, index, horizon, s, q),
+        Family::TwoActions => two_actions(file, index, horizon, s, q),
     }
-    if f == 1 {
-        return Place::Goal(q);
-    }
-    if f == 2 {
-        return Place::AllValues(s, q);
-    }
-    if f == 3 {
-        return two_values(file, index, horizon, s, q);
-    }
-    if f == 4 {
-        return precondition(file, index, horizon, s, q);
-    }
-    if f == 5 {
-        return effect(file, index, horizon, s, q);
-    }
-    if f == 6 {
-        return stays(file, index, horizon, s, q);
-    }
-    two_actions(file, index, horizon, s, q)
 }
 
 // The place of clause c.

@@ -25,6 +25,7 @@ fn row_of(index: &[u16], at: usize, width: usize, rows: usize, q: usize) -> usiz
 {
     let mut lo = 0;
     let mut hi = rows;
+    // A `while`: a bisection, of a column that is no slice.
     while 1 < hi - lo {
         let mid = lo + (hi - lo) / 2;
         if number_at(index, at, width, mid) <= q {

@@ -12,16 +12,13 @@ use crate::numbers::action_at;
 use crate::written::put_plus;
 use task::asked::{effect, effect_count};
 use task::index::actions;
-use task::numbering::{ValuePlace, nth_action, value_of, variable_of};
+use task::numbering::{ValuePlace, nth_action, value_place};
 
 // Whether a pair is x = v.
 fn is_pair(pair: ValuePlace, x: usize, v: usize) -> bool
     ensures { result ≡ (eqb pair.0 x && eqb pair.1 v) }
 {
-    if variable_of(pair) == x {
-        return value_of(pair) == v;
-    }
-    false
+    pair == value_place(x, v)
 }
 
 // Whether effect i of action a is x = v.
@@ -37,34 +34,7 @@ fn is_given(file: &[u8], index: &[u16], a: usize, x: usize, v: usize) -> bool
     requires { Indexed file.now index.now × (a < actionCount (task_of file.now)) }
     ensures { result ≡ is_given (task_of file.now) a x v }
 {
-    let count = effect_count(file, index, nth_action(a));
-    let mut i = 0;
-    while i < count {
-        if gives(file, index, a, x, v, i) {
-            return true;
-        }
-        i += 1;
-    }
-    false
-}
-
-// 1 where action a has the effect x = v, 0 where not.
-fn given_count(
-    file: &[u8],
-    index: &[u16],
-    horizon: usize,
-    s: usize,
-    x: usize,
-    v: usize,
-    a: usize,
-) -> usize
-    requires { Indexed file.now index.now × (a < actionCount (task_of file.now)) }
-    ensures { (result ≡ length (supporter (problem (task_of file.now) horizon) s x v a)) × (result ≤ 1) }
-{
-    if is_given(file, index, a, x, v) {
-        return 1;
-    }
-    0
+    (0..effect_count(file, index, nth_action(a))).any(|i| gives(file, index, a, x, v, i))
 }
 
 // How many actions have the effect x = v.
@@ -79,14 +49,9 @@ pub fn supporter_count(
     requires { Indexed file.now index.now }
     ensures { (result ≡ length (supporters (problem (task_of file.now) horizon) s x v)) × (result ≤ actionCount (task_of file.now)) }
 {
-    let all = actions(file, index);
-    let mut a = 0;
-    let mut count = 0;
-    while a < all {
-        count += given_count(file, index, horizon, s, x, v, a);
-        a += 1;
-    }
-    count
+    (0..actions(file, index))
+        .filter(|a| is_given(file, index, *a, x, v))
+        .count()
 }
 
 // Action a's literal, where it has the effect x = v; the place behind it.
@@ -129,10 +94,8 @@ pub fn put_supporters(
     ensures { out.new ≡ written out.old from (supporters (problem (task_of file.now) horizon) s x v) }
 {
     let all = actions(file, index);
-    let mut a = 0;
     let mut at = from;
-    while a < all {
+    for a in 0..all {
         at = put_supporter(file, index, horizon, s, x, v, a, out, at);
-        a += 1;
     }
 }

@@ -21,7 +21,7 @@ use Rattle.formula.specs.declared.place.Place.TheVariants.{Start, Goal, AllValue
 use Rattle.formula.specs.Front.{values_to}
 use Rattle.digits.specs.Over.{Wrote}
 use Rattle.lines.specs.Written.{literals, line_end, literal_room, end_room, line_room}
-use Rattle.lines.specs.AtPlace.{place_line, RoomFor, PairRoomFor}
+use Rattle.lines.specs.AtPlace.{place_line, RoomFor}
 use Rattle.lines.proofs.Writes.{wrote_literals, wrote_line, no_literals}
 
 module _ (file : List ℕ) (k : ℕ) (l m : List ℕ) (at e : ℕ) where
@@ -34,14 +34,6 @@ module _ (file : List ℕ) (k : ℕ) (l m : List ℕ) (at e : ℕ) where
   -- one arm of a match
   pub arm_room : (place p : Place) (room : ℕ) → place ≡ p → RoomFor file k place at room → RoomFor file k p at room
   arm_room place p room f r = rw f at r
-
-  pub arm_pair_room : (place p : Place) (room : ℕ) → place ≡ p → RoomFor file k place at room → PairRoomFor file k p at room
-  arm_pair_room place p room f r =
-      let enough = r.enough in
-      record { inside = (arm_room place p room f r).inside; enough = omega arith }
-
-  pub arm_line : (place p : Place) → place ≡ p → Wrote l at (place_line file k p) m e → Wrote l at (place_line file k place) m e
-  arm_line place p f w = rw f w
 
   pub start_line : (x v number : ℕ) → Wrote l at (clause_line (plus number ∷ [])) m e → number ≡ value_number P 0 x v → v ≡ start_value T x
       → Wrote l at (place_line file k (Start x)) m e
@@ -129,14 +121,8 @@ module _ (file : List ℕ) (k s x : ℕ) where
       }
 
   module _ (room now : List ℕ) (at count v end : ℕ) (r : ValuesPut room at count v now end) where
-    pub value_room : v < count → at + line_room ≤ length room → end + literal_room ≤ length now
-    value_room h g = omega (arith, r.few, r.up_to, r.most, r.kept)
-
     pub end_room_lem : at + line_room ≤ length room → end + end_room ≤ length now
     end_room_lem g = omega (arith, r.few, r.up_to, r.most, r.kept)
-
-    pub values_within : (behind : ℕ) → behind ≤ end + end_room → behind ≤ at + line_room
-    values_within behind h = omega (arith, r.few, r.up_to, r.most)
 
     pub values_end : (next : List ℕ) (behind : ℕ) → count ≡ d (task_of file) x → count ≤ v → Wrote now end line_end next behind
         → Wrote room at (place_line file k (AllValues s x)) next behind

@@ -1,12 +1,19 @@
 -- The literals of the actions that give a value.
 -- Assumes nothing.
-use mathlib.Core.Path.{◌≡◌, refl, sym, ◌∙◌}
-use mathlib.Core.Bool.{true, false}
+use mathlib.Core.Path.{◌≡◌, refl, sym, ap, ◌∙◌}
+use mathlib.Core.Bool.{Bool, true, false}
 use mathlib.Core.List.{List, [], ◌∷◌, ◌++◌}
 use Prim.Native.Nat.{ℕ, ◌+◌, ◌*◌, ◌≤◌, ◌<◌}
 use native.Mathlib.Omega.{arith}
 use native.Mathlib.Numerals.{add-one}
 use lib.ListN.{length, get_or}
+use Rattle.std.specs.Prelude.{Option, Some, None}
+use Rattle.std.specs.Option.{option_eq}
+use borrow.Author.Tests.{eqb-true, eq-eqb}
+use lib.Dec.{eqb}
+use mir.Syntax.{w8}
+use mir.Val.{Fits}
+use Rattle.rules.proofs.Bools.{clash}
 use Rattle.rules.specs.Limits.{max_actions}
 use Rattle.rules.specs.Counting.{for_each}
 use Rattle.rules.specs.Problem.{Problem, problem}
@@ -19,10 +26,18 @@ use Rattle.task.specs.Index.{Indexed}
 use Rattle.formula.specs.Front.{is_given, supporter, supporters_to}
 use Rattle.formula.proofs.Supported.{supporters_all}
 use Rattle.digits.specs.Over.{Wrote}
-use Rattle.lines.specs.Written.{literals, literal_room, supporters_room}
+use Rattle.lines.specs.Written.{literals, literal_room}
 use Rattle.lines.specs.Given.{Noted}
 use Rattle.lines.proofs.Writes.{wrote_literals, no_literals}
 use Rattle.lines.proofs.Noting.{given_is, given_not}
+
+-- what a test of two values that may be none says
+same_some : (o : Option ℕ) (v : ℕ) → o ≡ Some v → option_eq eqb o (Some v) ≡ true
+same_some o v e = rw e (eq-eqb v v refl)
+
+some_same : (o : Option ℕ) (v : ℕ) → option_eq eqb o (Some v) ≡ true → o ≡ Some v
+some_same None v h = clash h refl
+some_same (Some w) v h = ap Some (eqb-true w v h)
 
 module _ (file : List ℕ) (k s x v : ℕ) where
   abbrev P : Problem
@@ -30,20 +45,23 @@ module _ (file : List ℕ) (k s x v : ℕ) where
 
   -- ---- one of them, by what is noted of its action
 
-  module _ (index given l : List ℕ) (a at : ℕ) (ix : Indexed file index) (hx : x < n (task_of file)) (hv : v < d (task_of file) x) (ha : a < A (task_of file)) (noted : Noted (task_of file) x (A (task_of file)) given) where
-    pub no_supporter : (get_or given a 0 ≡ v → ⊥) → Wrote l at (literals (supporter P s x v a)) l at
+  module _ (index : List ℕ) (given : List (Option ℕ)) (l : List ℕ) (a at : ℕ) (ix : Indexed file index) (hx : x < n (task_of file)) (hv : v < d (task_of file) x) (ha : a < A (task_of file)) (noted : Noted (task_of file) x (A (task_of file)) given) where
+    pub value_fits : Fits w8 v
+    value_fits = record { fits = omega (arith, (accepted_well_formed file ix.accepted).domain_small x hx) }
+
+    pub no_supporter : (b : Bool) → b ≡ option_eq eqb (get_or given a None) (Some v) → b ≡ false → Wrote l at (literals (supporter P s x v a)) l at
     unfolding supporter
-    no_supporter h =
+    no_supporter b eb t =
         let not : false ≡ is_given (task_of file) a x v =
-        given_not (task_of file) (accepted_well_formed file ix.accepted) x v a hx hv ha (λ e. h (noted.each a ha ∙ e)) in
+        given_not (task_of file) (accepted_well_formed file ix.accepted) x v a hx hv ha (λ e. clash (same_some _ v (noted.each a ha ∙ e)) (sym eb ∙ t)) in
         rw (← not) (no_literals l at)
 
-    pub one_supporter : (m : List ℕ) (end number : ℕ) → get_or given a 0 ≡ v → number ≡ action_number P s a → Wrote l at (literals (plus number ∷ [])) m end
+    pub one_supporter : (m : List ℕ) (end number : ℕ) (b : Bool) → b ≡ option_eq eqb (get_or given a None) (Some v) → b ≡ true → number ≡ action_number P s a → Wrote l at (literals (plus number ∷ [])) m end
         → Wrote l at (literals (supporter P s x v a)) m end
     unfolding supporter
-    one_supporter m end number e g w =
+    one_supporter m end number b eb t g w =
         let is : true ≡ is_given (task_of file) a x v =
-        given_is (task_of file) (accepted_well_formed file ix.accepted) x v a hx hv ha (sym (noted.each a ha) ∙ e) in
+        given_is (task_of file) (accepted_well_formed file ix.accepted) x v a hx hv ha (sym (noted.each a ha) ∙ some_same _ v (sym eb ∙ t)) in
         rw (← is, ← g) w
 
   -- ---- all, one after the other
@@ -72,12 +90,6 @@ module _ (file : List ℕ) (k s x v : ℕ) where
   supporters_next a = rw (add-one a)
 
   module _ (room now : List ℕ) (at a end all : ℕ) (r : SupportersPut room at a now end) (f : all ≡ A (task_of file)) where
-    pub support_room : a < all → at + supporters_room ≤ length room → end + literal_room ≤ length now
-    support_room h g = omega (arith, r.few, r.up_to, r.most, r.kept)
-
-    pub action_noted : (index given : List ℕ) → Indexed file index → Noted (task_of file) x (A (task_of file)) given → a < all → a < length given
-    action_noted index given ix noted h = omega (arith, noted.room, r.most)
-
     pub support_more : (next : List ℕ) (behind : ℕ) → a < all → Wrote now end (literals (supporter P s x v a)) next behind
         → behind ≤ end + literal_room → length next ≡ length now → SupportersPut room at (a + 1) next behind
     support_more next behind h w few kept =
@@ -92,6 +104,3 @@ module _ (file : List ℕ) (k s x v : ℕ) where
     pub support_end : all ≤ a → Wrote room at (literals (supporters P s x v)) now end
     support_end h =
         let i : a ≡ A (task_of file) = omega (arith, r.up_to) in rw (← supporters_all P s x v a i) r.so_far
-
-  pub support_within : (room now : List ℕ) (at a end : ℕ) → SupportersPut room at a now end → end ≤ at + supporters_room
-  support_within room now at a end r = omega (arith, r.few, r.up_to, r.most)

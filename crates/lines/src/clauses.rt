@@ -64,10 +64,8 @@ fn put_all_values(
 {
     let count = size(file, x);
     let mut end = at;
-    let mut v = 0;
-    while v < count {
+    for v in 0..count {
         end = put_plus(out, end, value_at(file, index, horizon, s, x, v));
-        v += 1;
     }
     put_end(out, end)
 }

@@ -21,9 +21,6 @@ use task::index::actions;
 use task::limits::MAX_ACTIONS;
 use task::numbering::{ValuePlace, nth_action, value_of, variable_of};
 
-// Not a value.
-const NO_VALUE: usize = 255;
-
 // How many effects action a has.
 fn effects_of(file: &[u8], index: &[u16], a: usize) -> usize
     requires { Indexed file.now index.now × (a < actionCount (task_of file.now)) }
@@ -49,46 +46,36 @@ fn sets(file: &[u8], index: &[u16], x: usize, a: usize, i: usize) -> bool
 }
 
 // The value of effect i of action a.
-fn value_set(file: &[u8], index: &[u16], a: usize, i: usize) -> usize
+fn value_set(file: &[u8], index: &[u16], a: usize, i: usize) -> u8
     requires { Indexed file.now index.now × (a < actionCount (task_of file.now)) × (i < length (action (task_of file.now) a).effects) }
     ensures { result ≡ (pair (action (task_of file.now) a).effects i).value }
 {
-    value_of(effect_of(file, index, a, i))
+    value_of(effect_of(file, index, a, i)) as u8
 }
 
 // The value that action a gives x, if any.
-fn given_to(file: &[u8], index: &[u16], x: usize, a: usize) -> usize
+fn given_to(file: &[u8], index: &[u16], x: usize, a: usize) -> Option<u8>
     requires { Indexed file.now index.now × (a < actionCount (task_of file.now)) }
     ensures { result ≡ given_to (task_of file.now) x a }
 {
+    // Not `find` and `map`: with them the clause program takes 0.063 s for the largest formula, with this loop 0.060 s.
     let count = effects_of(file, index, a);
-    let mut i = 0;
-    while i < count {
+    for i in 0..count {
         if sets(file, index, x, a, i) {
-            return value_set(file, index, a, i);
+            return Some(value_set(file, index, a, i));
         }
-        i += 1;
     }
-    NO_VALUE
-}
-
-fn note(given: &mut [usize], a: usize, value: usize)
-    requires { a < length given.old }
-    ensures { given.new ≡ set given.old a value }
-{
-    given[a] = value;
+    None
 }
 
 // Notes the value that each action gives x.
-pub fn note_given(file: &[u8], index: &[u16], x: usize, given: &mut [usize])
+pub fn note_given(file: &[u8], index: &[u16], x: usize, given: &mut [Option<u8>])
     requires { Indexed file.now index.now × (length given.old ≡ max_actions) }
     ensures { Noted (task_of file.now) x (actionCount (task_of file.now)) given.new }
 {
     let all = actions(file, index);
-    let mut a = 0;
-    while a < all {
-        note(given, a, given_to(file, index, x, a));
-        a += 1;
+    for a in 0..all {
+        given[a] = given_to(file, index, x, a);
     }
 }
 
@@ -101,7 +88,7 @@ fn put_supporter(
     x: usize,
     v: usize,
     a: usize,
-    given: &[usize],
+    given: &[Option<u8>],
     out: &mut [u8],
     at: usize,
 ) -> usize
@@ -110,7 +97,7 @@ fn put_supporter(
     ensures written { Wrote out.old at (literals (supporter (problem (task_of file.now) horizon) s x v a)) out.new result }
     ensures within { result ≤ at + literal_room }
 {
-    if given[a] == v {
+    if given[a] == Some(v as u8) {
         return put_plus(out, at, action_at(file, index, horizon, s, a));
     }
     at
@@ -124,7 +111,7 @@ fn put_supporters(
     s: usize,
     x: usize,
     v: usize,
-    given: &[usize],
+    given: &[Option<u8>],
     out: &mut [u8],
     at: usize,
 ) -> usize
@@ -135,10 +122,8 @@ fn put_supporters(
 {
     let all = actions(file, index);
     let mut end = at;
-    let mut a = 0;
-    while a < all {
+    for a in 0..all {
         end = put_supporter(file, index, horizon, s, x, v, a, given, out, end);
-        a += 1;
     }
     end
 }
@@ -151,7 +136,7 @@ pub fn put_noted(
     s: usize,
     x: usize,
     v: usize,
-    given: &[usize],
+    given: &[Option<u8>],
     out: &mut [u8],
     at: usize,
 ) -> usize
@@ -182,7 +167,7 @@ pub fn put_stays(
     ensures written { Wrote out.old at (place_line file.now horizon (Place.Stays s x v)) out.new result }
     ensures within { result ≤ at + line_room }
 {
-    let mut given = [0usize; MAX_ACTIONS];
+    let mut given = [None; MAX_ACTIONS];
     note_given(file, index, x, &mut given);
     put_noted(file, index, horizon, s, x, v, &given, out, at)
 }

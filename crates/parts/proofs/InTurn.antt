@@ -138,10 +138,11 @@ module _ (file : List ℕ) (k s : ℕ) where
       pub stays_short : length now - end < line_room → PutPart file k (place_number T k (Stays s x v)) room at lines now end
       stays_short l = stays_some (some_lines file k (stays_from s x v) room at left lines now end p line_room l h.enough)
 
-      pub stays_part : left ≤ lines → PutPart file k (place_number T k (Stays s x v)) room at lines now end
+      pub stays_part : left ≤ lines → PutPart file k (place_number T k (Stays s x v)) room at left now end
       stays_part all =
           let inside = h.inside in
-          stays_some (omega arith)
+          let whole : lines ≡ left = omega (arith, p.up_to) in
+          rw whole at stays_some (omega arith)
 
   -- preconditions of an action
   module _ (a i : ℕ) where
@@ -190,10 +191,11 @@ module _ (file : List ℕ) (k s : ℕ) where
       pub precondition_short : length now - end < pair_room → PutPart file k (place_number T k (Precondition s a i)) room at lines now end
       precondition_short l = precondition_some (some_lines file k (precondition_from s a i) room at left lines now end p pair_room l h.enough)
 
-      pub precondition_part : left ≤ lines → PutPart file k (place_number T k (Precondition s a i)) room at lines now end
+      pub precondition_part : left ≤ lines → PutPart file k (place_number T k (Precondition s a i)) room at left now end
       precondition_part all =
           let inside = h.inside in
-          precondition_some (omega arith)
+          let whole : lines ≡ left = omega (arith, p.up_to) in
+          rw whole at precondition_some (omega arith)
 
   -- effects of an action
   module _ (a i : ℕ) where
@@ -242,10 +244,11 @@ module _ (file : List ℕ) (k s : ℕ) where
       pub effect_short : length now - end < pair_room → PutPart file k (place_number T k (Effect s a i)) room at lines now end
       effect_short l = effect_some (some_lines file k (effect_from s a i) room at left lines now end p pair_room l h.enough)
 
-      pub effect_part : left ≤ lines → PutPart file k (place_number T k (Effect s a i)) room at lines now end
+      pub effect_part : left ≤ lines → PutPart file k (place_number T k (Effect s a i)) room at left now end
       effect_part all =
           let inside = h.inside in
-          effect_some (omega arith)
+          let whole : lines ≡ left = omega (arith, p.up_to) in
+          rw whole at effect_some (omega arith)
 
 -- an action and the next one have rows in the index
 module _ (file index : List ℕ) (ix : Indexed file index) (a : ℕ) (h : a < A (task_of file)) where

@@ -1,20 +1,19 @@
 -- One line: copied, or found too long.
 -- Assumes nothing.
 use mathlib.Core.Path.{◌≡◌, refl, sym, ap, ◌∙◌}
-use mathlib.Core.List.{List, [], ◌∷◌}
+use mathlib.Core.List.{List, [], ◌++◌}
 use Prim.Native.Nat.{ℕ, ◌+◌, ◌-◌, ◌≤◌, ◌<◌}
 use native.Mathlib.Omega.{arith}
-use native.Mathlib.Numerals.{add-one}
 use native.Mathlib.Nat.{zero-add}
-use lib.ListN.{length, get_or, take, drop, set, length-take, length-set}
-use lib.Seq.{take-suc, take-append_seam}
+use lib.ListN.{length, take, drop, length-take}
+use lib.Seq.{drop-drop, take-append_seam}
 use Rattle.rules.specs.Counting.{for_each}
 use Rattle.rules.specs.Problem.{Problem}
 use Rattle.rules.specs.Families.{C, clause}
 use Rattle.rules.specs.Text.{clause_line}
 use Rattle.rules.specs.Calls.{problem_of}
 use Rattle.digits.specs.Over.{over, Wrote}
-use Rattle.digits.proofs.Overs.{over_over, over_none, set_over, wrote_nothing}
+use Rattle.digits.proofs.Overs.{wrote_nothing}
 use Rattle.formula.specs.declared.place.Place.{Place}
 use Rattle.formula.specs.InFamily.{IsAt}
 use Rattle.lines.specs.Written.{line_room}
@@ -34,32 +33,13 @@ module _ (file : List ℕ) (k c : ℕ) (place : Place) (h : IsAt (problem_of fil
 
 -- ---- copying
 
--- the first i bytes of a text are copied
-pub record Copying (text room : List ℕ) (at n i : ℕ) (now : List ℕ) : Type 0 where
-  pub so_far : now ≡ over room at (take i text)
-  pub kept : length now ≡ length room
-  pub up_to : i ≤ n
-
-pub copy_start : (text room : List ℕ) (at n : ℕ) → Copying text room at n 0 room
-copy_start text room at n = record { so_far = sym (over_none room at); kept = refl; up_to = omega arith }
-
-pub copy_more : (text room now : List ℕ) (at n i : ℕ) → n ≤ length text → at + n ≤ length room → Copying text room at n i now → i < n
-    → Copying text room at n (i + 1) (set now (at + i) (get_or text i 0))
-copy_more text room now at n i hn hr r h =
-    let len : length (take i text) ≡ i = length-take i text ∙ omega arith in
-    rw (add-one i)
-    (record {
-      so_far =
-          set_over now (at + i) (get_or text i 0) (omega (arith, r.kept))
-          ∙ rw (r.so_far, take-suc text i 0 (omega arith)) (ap (λ j. over (over room at (take i text)) (at + j) (get_or text i 0 ∷ [])) (sym len) ∙ over_over room at (take i text) (get_or text i 0 ∷ []));
-      kept = length-set now (at + i) (get_or text i 0) ∙ r.kept;
-      up_to = omega arith;
-    })
-
-pub copy_end : (text room now : List ℕ) (at n i : ℕ) → n ≤ length text → Copying text room at n i now → n ≤ i → Wrote room at (take n text) now (at + n)
-copy_end text room now at n i hn r h =
-    let s : n ≡ i = omega (arith, r.up_to) in
-    record { written = rw s r.so_far; behind = ap (λ j. at + j) (sym (length-take n text ∙ omega arith)) }
+pub front_copied : (text room part : List ℕ) (at n : ℕ) → n ≤ length text → part ≡ take n text
+    → Wrote room at (take n text) (take at room ++ (part ++ drop (at + n - at) (drop at room))) (at + n)
+unfolding over
+front_copied text room part at n h e =
+    let long : length (take n text) ≡ n = length-take n text ∙ omega arith in
+    let behind : at + n - at ≡ n = omega arith in
+    record { written = rw (e, behind, long, drop-drop n at room); behind = ap (λ j. at + j) (sym long) }
 
 -- a text that was made first is what is copied
 pub made_first : (line made text : List ℕ) (n : ℕ) → Wrote line 0 text made n → take n made ≡ text

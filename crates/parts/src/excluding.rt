@@ -17,15 +17,6 @@ use task::asked::size;
 use task::index::actions;
 use task::numbering::number_of;
 
-fn smaller(a: usize, b: usize) -> usize
-    ensures { result ≡ min a b }
-{
-    if a < b {
-        return a;
-    }
-    b
-}
-
 // The lines of the pairs below count from (first, second) on, their numbers counted from base on.
 fn put_pairs(
     out: &mut [u8],
@@ -39,7 +30,7 @@ fn put_pairs(
     ensures { PutPairs base count first second out.old at result.lines out.new result.end }
 {
     let left = pairs_below(count) - number_of_pair(count, first, second);
-    let lines = smaller(left, (out.len() - at) / PAIR_ROOM);
+    let lines = left.min((out.len() - at) / PAIR_ROOM);
     let end = put_exclusions(out, at, base, count, first, second, lines);
     Part { lines, end }
 }

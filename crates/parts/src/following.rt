@@ -26,7 +26,7 @@ fn put_values(
     s: usize,
     x: usize,
     v: usize,
-    given: &[usize],
+    given: &[Option<u8>],
     out: &mut [u8],
     at: usize,
 ) -> Part
@@ -35,16 +35,14 @@ fn put_values(
     ensures { PutPart file.now horizon (place_number (task_of file.now) horizon (Place.Stays s x v)) out.old at result.lines out.new result.end }
 {
     let left = size(file, x) - v;
-    let mut lines = 0;
     let mut end = at;
-    while lines < left {
+    for lines in 0..left {
         if out.len() - end < LINE_ROOM {
             return Part { lines, end };
         }
         end = put_noted(file, index, horizon, s, x, v + lines, given, out, end);
-        lines += 1;
     }
-    Part { lines, end }
+    Part { lines: left, end }
 }
 
 // The values of a variable that stay at a step, from v on.
@@ -61,12 +59,13 @@ pub fn put_stays(
     requires { Indexed file.now index.now × (horizon ≤ max_horizon) × RoomFor file.now horizon (Place.Stays s x v) at (length out.old) }
     ensures { PutPart file.now horizon (place_number (task_of file.now) horizon (Place.Stays s x v)) out.old at result.lines out.new result.end }
 {
-    let mut given = [0usize; MAX_ACTIONS];
+    let mut given = [None; MAX_ACTIONS];
     note_given(file, index, x, &mut given);
     put_values(file, index, horizon, s, x, v, &given, out, at)
 }
 
-// How many preconditions action a has.
+// How many preconditions action a has. Not `task::asked::precondition_count`: with it the clause program takes 0.067 s for the largest formula, with
+// the index 0.060 s.
 fn preconditions_of(file: &[u8], index: &[u16], a: usize) -> usize
     requires { Indexed file.now index.now × (a < actionCount (task_of file.now)) }
     ensures { result ≡ length (action (task_of file.now) a).preconditions }
@@ -89,16 +88,14 @@ pub fn put_preconditions(
     ensures { PutPart file.now horizon (place_number (task_of file.now) horizon (Place.Precondition s a i)) out.old at result.lines out.new result.end }
 {
     let left = preconditions_of(file, index, a) - i;
-    let mut lines = 0;
     let mut end = at;
-    while lines < left {
+    for lines in 0..left {
         if out.len() - end < PAIR_ROOM {
             return Part { lines, end };
         }
         end = put_precondition(file, index, horizon, s, a, i + lines, out, end);
-        lines += 1;
     }
-    Part { lines, end }
+    Part { lines: left, end }
 }
 
 // How many effects action a has.
@@ -109,7 +106,8 @@ fn effects_of(file: &[u8], index: &[u16], a: usize) -> usize
     effects_before(file, index, a + 1) - effects_before(file, index, a)
 }
 
-// The effects of an action at a step, from pair i on.
+// The effects of an action at a step, from pair i on. The same loop as for preconditions: one function for both would take an enum and two matches
+// on it, and be no shorter.
 pub fn put_effects(
     file: &[u8],
     index: &[u16],
@@ -124,14 +122,12 @@ pub fn put_effects(
     ensures { PutPart file.now horizon (place_number (task_of file.now) horizon (Place.Effect s a i)) out.old at result.lines out.new result.end }
 {
     let left = effects_of(file, index, a) - i;
-    let mut lines = 0;
     let mut end = at;
-    while lines < left {
+    for lines in 0..left {
         if out.len() - end < PAIR_ROOM {
             return Part { lines, end };
         }
         end = put_effect(file, index, horizon, s, a, i + lines, out, end);
-        lines += 1;
     }
-    Part { lines, end }
+    Part { lines: left, end }
 }

@@ -47,12 +47,9 @@ pub fn copy(text: &[u8], n: usize, out: &mut [u8], at: usize) -> usize
     requires { (n ≤ length text.now) × (at + n ≤ length out.old) }
     ensures { Wrote out.old at (take n text.now) out.new result }
 {
-    let mut i = 0;
-    while i < n {
-        out[at + i] = text[i];
-        i += 1;
-    }
-    at + n
+    let end = at + n;
+    out[at..end].copy_from_slice(&text[..n]);
+    end
 }
 
 // The line of clause c if it fits, made in lent room of its own and copied.

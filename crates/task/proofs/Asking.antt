@@ -5,7 +5,6 @@ use mathlib.Core.List.{List, [], ◌∷◌, ◌++◌}
 use Prim.Native.Nat.{ℕ, ◌+◌, ◌*◌, ◌≤◌, ◌<◌}
 use native.Mathlib.Omega.{arith}
 use native.Mathlib.Nat.{mul-le-mul}
-use borrow.Author.Tests.{le-leb, lt-leb}
 use mir.Syntax.{w64}
 use mir.Val.{Fits}
 use lib.ListN.{length, get_or, length-append, get_or-append, get_or-eq_default}
@@ -21,8 +20,7 @@ use Rattle.rules.proofs.Numbering.{value_place}
 use Rattle.rules.proofs.Valid.{WellFormed}
 use Rattle.rules.proofs.Files.{accepted_well_formed}
 use Rattle.task.specs.Index.{variable_row, action_row, variable_rows, action_rows, variable_width, action_width, actions_at, count_at, index_length, index_of, action_place, value_pairs_before, preconditions_before, effects_before, Indexed}
-use Rattle.task.specs.declared.numbering.NumberRead.TheVariants.{Number, Outside}
-use Rattle.task.specs.Numbers.{at_any_horizon, number_read}
+use Rattle.task.specs.Numbers.{at_any_horizon}
 use Rattle.task.proofs.Bytes.{precondition_count, effect_count}
 use Rattle.task.proofs.Rows.{length-rows, wide_variable, wide_action}
 
@@ -167,22 +165,6 @@ number_fits s w h l = record { fits = omega (arith, mul-le-mul h l) }
 
 pub number-fits₁ : (s w p : ℕ) → s ≤ max_horizon → w ≤ max_values + max_actions → p ≤ w → Fits w64 (s * w + p)
 number-fits₁ s w p h l k = record { fits = omega (arith, mul-le-mul h l) }
-
-pub number-fits₂ : (s w p : ℕ) → s ≤ max_horizon → w ≤ max_values + max_actions → p ≤ w → Fits w64 (s * w + p + 1)
-number-fits₂ s w p h l k = record { fits = omega (arith, mul-le-mul h l) }
-
-module _ (highest number : ℕ) where
-  pub number_zero : number < 1 → Outside ≡ number_read highest number
-  unfolding number_read
-  number_zero h = rw (lt-leb 1 number h)
-
-  pub number_above : 1 ≤ number → highest < number → Outside ≡ number_read highest number
-  unfolding number_read
-  number_above h l = rw (le-leb 1 number h, lt-leb number highest l)
-
-  pub number_inside : 1 ≤ number → number ≤ highest → Number (record { 0 = number }) ≡ number_read highest number
-  unfolding number_read
-  number_inside h l = rw (le-leb 1 number h, le-leb number highest l)
 
 -- ---- the numbers are the same at every horizon
 

@@ -2,11 +2,11 @@
 -- Assumes nothing.
 use mathlib.Core.Path.{◌≡◌, sym, ◌∙◌}
 use Prim.Native.Nat.{ℕ}
+use Rattle.std.specs.Prelude.{Option}
 use Rattle.rules.specs.declared.Verdict.{Verdict}
 use Rattle.task.specs.declared.numbering.ValuePlace.{ValuePlace}
 use Rattle.task.specs.declared.numbering.ActionNumber.{ActionNumber}
 use Rattle.task.specs.declared.numbering.FormulaNumber.{FormulaNumber}
-use Rattle.task.specs.declared.numbering.NumberRead.{NumberRead}
 use Rattle.task.proofs.index.number_in.Reads as number_in
 use Rattle.task.proofs.index.offset.Reads as offset
 use Rattle.task.proofs.index.value_pairs_before.Reads as value-pairs-before
@@ -129,7 +129,7 @@ one_value_number κs a r s x p q = same_number r s _ p q
 pub one_action_number : (κs : _) (a : _) (r s : FormulaNumber) (x : _) → action_number.Post κs a r x → action_number.Post κs a s x → r ≡ s
 one_action_number κs a r s x p q = same_number r s _ p q
 
-pub one_checked_number : (κs : _) (a : _) (r s : NumberRead) (x : _) → checked-number.Post κs a r x → checked-number.Post κs a s x → r ≡ s
+pub one_checked_number : (κs : _) (a : _) (r s : Option FormulaNumber) (x : _) → checked-number.Post κs a r x → checked-number.Post κs a s x → r ≡ s
 one_checked_number κs a r s x p q = p ∙ sym q
 
 -- ---- the problem at a horizon

@@ -6,8 +6,6 @@ use Prim.Native.Nat.{ℕ, suc, ◌+◌, ◌-◌, ◌*◌, ◌≤◌, ◌<◌}
 use native.Mathlib.Omega.{arith}
 use native.Mathlib.Numerals.{add-one}
 use native.Mathlib.Nat.{mul_comm}
-use mir.Syntax.{w64}
-use mir.Val.{Fits}
 use lib.ListN.{length, get_or, set, take, drop, length-append, length-drop, length-map, get_or-eq_default}
 use lib.Seq.{length-take-le, drop-cons, set_at, take_at, drop_at, sets, sets-eq, length-sets, take-append_seam, drop-append-add, drop-drop, drop-length, get_or-drop}
 use Rattle.rules.specs.Counting.{sum_to, for_each}
@@ -23,12 +21,6 @@ use Rattle.task.specs.Index.{rest_at, variable_row, action_row, variable_rows, a
 
 abbrev pub over : (table written : List ℕ) → List ℕ
 over table written = written ++ drop (length written) table
-
-pub two_stored : (l : List ℕ) (at u v : ℕ) → set (set l at u) (at + 1) v ≡ sets l at (u ∷ v ∷ [])
-two_stored l at u v = rw add-one
-
-pub three_stored : (l : List ℕ) (at u v w : ℕ) → set (set (set l at u) (at + 1) v) (at + 2) w ≡ sets l at (u ∷ v ∷ w ∷ [])
-three_stored l at u v w = let two : at + 2 ≡ suc (suc at) = omega arith in rw (add-one, two)
 
 pub over_more : (table p q : List ℕ) → length p + length q ≤ length table → sets (over table p) (length p) q ≡ over table (p ++ q)
 over_more table p q h =
@@ -106,9 +98,6 @@ module _ (sizes table : List ℕ) where
     pairs_grown fit size more l es em =
         grown_few (λ y. pairs_below (byte sizes y)) variable_rows x pairs more (omega arith) fit.pairs_fit f.pairs_are (em ∙ ap pairs_below es)
 
-    pub pairs_sum_fits : VariablesFit sizes → (size more : ℕ) → x ≤ max_variables → size ≡ byte sizes x → more ≡ pairs_below size → Fits w64 (pairs + more)
-    pairs_sum_fits fit size more l es em = record { fits = omega (arith, pairs_grown fit size more l es em) }
-
     pub variables_more : VariablesFit sizes → (after : List ℕ) (size more : ℕ) → x ≤ max_variables → after ≡ sets out (variable_width * x) (values ∷ pairs ∷ [])
         → size ≡ byte sizes x → more ≡ pairs_below size → VariablesFilled sizes table after (x + 1) (values + size) (pairs + more)
     variables_more fit after size more l ea es em =
@@ -138,14 +127,6 @@ module _ (s : List ℕ) (at b₀ b₁ : ℕ) (e₀ : b₀ ≡ byte s at) (e₁ :
   bytes_at =
       let here : get_or (drop at s) 0 0 ≡ b₀ = get_or-drop at s 0 0 ∙ sym (e₀ ∙ ap (byte s) (omega arith)) in
       omega (arith, here, get_or-drop at s 1 0)
-
-  pub next_past : length s - at < count_bytes + pair_bytes * (b₀ + b₁) → drop (length s) s ≡ drop (action_bytes (drop at s)) (drop at s)
-  next_past h =
-      let past : length s ≤ at + action_bytes (drop at s) = omega (arith, bytes_at) in
-      drop-length s ∙ sym (drop-drop (action_bytes (drop at s)) at s ∙ drop_past (at + action_bytes (drop at s)) s past)
-
-  pub next_within : drop (at + (count_bytes + pair_bytes * (b₀ + b₁))) s ≡ drop (action_bytes (drop at s)) (drop at s)
-  next_within = rw bytes_at (sym (drop-drop (action_bytes (drop at s)) at s))
 
 -- ---- the action of a rest
 

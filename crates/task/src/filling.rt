@@ -44,15 +44,13 @@ fn fill_variables(sizes: &[u8], out: &mut [u16])
     requires { VariablesFit sizes.now × (length out.old ≡ variable_width * variable_rows) }
     ensures { out.new ≡ for_each variable_rows (variable_row sizes.now) }
 {
-    let mut x = 0;
     let mut values = 0;
     let mut pairs = 0;
-    while x <= MAX_VARIABLES {
+    for x in 0..=MAX_VARIABLES {
         put_variable(out, VARIABLE_WIDTH * x, values as u16, pairs as u16);
         let size = byte_if_any(sizes, x);
         values += size;
         pairs += pairs_below(size);
-        x += 1;
     }
 }
 
@@ -76,6 +74,7 @@ fn count_actions(actions: &[u8]) -> usize
 {
     let mut at = 0;
     let mut a = 0;
+    // A `while`: each turn goes on by as many bytes as the action that was read has.
     while at < actions.len() {
         at = next_place(actions, at);
         a += 1;
@@ -88,11 +87,10 @@ fn fill_actions(start: usize, actions: &[u8], out: &mut [u16])
     requires { ActionsFit actions.now × (start + length actions.now ≤ max_file) × (length out.old ≡ action_width * action_rows) }
     ensures { out.new ≡ for_each action_rows (action_row start actions.now) }
 {
-    let mut a = 0;
     let mut at = 0;
     let mut preconditions = 0;
     let mut effects = 0;
-    while a <= MAX_ACTIONS {
+    for a in 0..=MAX_ACTIONS {
         put_action(
             out,
             ACTION_WIDTH * a,
@@ -103,7 +101,6 @@ fn fill_actions(start: usize, actions: &[u8], out: &mut [u16])
         preconditions += byte_if_any(actions, at);
         effects += byte_if_any(actions, at + 1);
         at = next_place(actions, at);
-        a += 1;
     }
 }
 

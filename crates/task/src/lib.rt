@@ -5,6 +5,7 @@
 pub use reader::{contents, file, limits};
 
 pub mod asked;
+pub mod family;
 pub mod filling;
 pub mod index;
 pub mod numbering;

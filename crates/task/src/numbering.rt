@@ -11,7 +11,7 @@ ghost use Rattle.task.specs.Numbers.{at_any_horizon, number_read};
 use crate::index::{offset, step_width, values};
 
 // A variable and one of its values.
-#[derive(Clone, Copy)]
+#[derive(Clone, Copy, PartialEq, Eq)]
 pub struct ValuePlace(usize, usize);
 
 // An action, from 0.
@@ -91,20 +91,11 @@ pub fn action_number(file: &[u8], index: &[u16], step: usize, action: ActionNumb
 }
 
 // A number that was read: a formula number if it is one of 1 to N.
-#[derive(Clone, Copy)]
-pub enum NumberRead {
-    Number(FormulaNumber),
-    Outside,
-}
-
-pub fn checked_number(highest: usize, number: usize) -> NumberRead
+#[tactic(auto, unfolding(crate::specs::Numbers::number_read))]
+pub fn checked_number(highest: usize, number: usize) -> Option<FormulaNumber>
     ensures { result ≡ number_read highest number }
 {
-    if number < 1 {
-        return NumberRead::Outside;
-    }
-    if highest < number {
-        return NumberRead::Outside;
-    }
-    NumberRead::Number(FormulaNumber(number))
+    (1..=highest)
+        .contains(&number)
+        .then_some(FormulaNumber(number))
 }

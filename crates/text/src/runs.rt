@@ -32,6 +32,7 @@ pub fn put_run(
 {
     let mut at = 0;
     let mut lines = 0;
+    // A `while`: each turn goes on by as many lines as it wrote.
     while c + lines < all {
         let part = put_some(file, index, horizon, c + lines, out, at);
         if part.lines == 0 {

@@ -1,6 +1,6 @@
 -- `exclusions::rows::put_ten` meets its contract.
 -- Assumes nothing.
-use Rattle.exclusions.proofs.Rowing.{ten_fits, ten_least, ten_most, ten_tail, run_written, wide_tail, wide_room, wide_written, wide_within}
+use Rattle.exclusions.proofs.Rowing.{ten_fits, ten_least, ten_most, ten_tail, wide_tail, wide_room, wide_written}
 use borrow.Author.Rules.{rules}
 use Rattle.exclusions.proofs.rows.put_ten.Goals as goal
 
@@ -10,20 +10,11 @@ overflow_add-line c = search (rules, ten_fits)
 pub put_run-requires : goal.put_run-requires
 put_run-requires c = search (rules, ten_least, ten_most, ten_tail)
 
-pub returns-then-n-lt-TEN : goal.returns-then-n-lt-TEN
-returns-then-n-lt-TEN c = search (rules, run_written)
-
 pub put_run-requires-then-line-lt-WIDE : goal.put_run-requires-then-line-lt-WIDE
 put_run-requires-then-line-lt-WIDE c = search (rules, ten_least, ten_most, ten_tail)
-
-pub returns-then-line-lt-WIDE : goal.returns-then-line-lt-WIDE
-returns-then-line-lt-WIDE c = search (rules, run_written)
 
 pub put_wide-requires : goal.put_wide-requires
 put_wide-requires c = search (rules, wide_tail, wide_room)
 
 pub returns-clause-written : goal.returns-clause-written
 returns-clause-written c = search (rules, wide_written)
-
-pub returns-clause-within : goal.returns-clause-within
-returns-clause-within c = search (rules, wide_within)

@@ -2,11 +2,7 @@
 -- Assumes nothing.
 use borrow.Author.Rules.{rules}
 use Rattle.formula.proofs.Spelled.{effect_variable, effect_value, effect_room, effect_written}
-use Rattle.formula.proofs.Supported.{action_there, effect_there}
 use Rattle.formula.proofs.clauses.put_effect.Goals as goal
-
-pub effect-pair-requires : goal.effect-pair-requires
-effect-pair-requires c = search (rules, action_there, effect_there)
 
 pub pair_at-second-requires : goal.pair_at-second-requires
 pair_at-second-requires c = search (rules, effect_variable, effect_value)

@@ -1,14 +1,9 @@
 -- `families::count_clauses` meets its contract. The loop's invariant: the sum is that of the families so far.
 -- Assumes nothing.
 use mathlib.Core.Path.{◌≡◌}
-use Prim.Native.Nat.{◌-◌, ◌≤◌}
 use Rattle.rules.specs.File.{task_of}
 use Rattle.rules.proofs.ByNumber.{clauses_before}
-use Rattle.formula.specs.InFamily.{family_count}
 use Rattle.formula.proofs.families.count_clauses.Given as goal
 
-abbrev pub invariant-loop-f : goal.invariant-loop-f
-invariant-loop-f l = (l.f ≤ family_count) × (l.sum ≡ clauses_before (task_of l.file) l.horizon l.f)
-
-abbrev pub decreases-loop-f : goal.decreases-loop-f
-decreases-loop-f l = family_count - l.f
+abbrev pub invariant-loop-family : goal.invariant-loop-family
+invariant-loop-family l = l.sum ≡ clauses_before (task_of l.file) l.horizon l.family-index

@@ -1,19 +1,13 @@
 -- Assumes nothing.
 use borrow.Author.Rules.{rules}
-use Rattle.formula.proofs.ByPlace.{ranked_first, ranked_more, ranked_next, ranked_here}
+use Rattle.formula.proofs.ByPlace.{ranked_first, ranked_next, ranked_last}
 use Rattle.formula.proofs.placing.family_of.Goals as goal
 
-pub loop-count-init : goal.loop-count-init
-loop-count-init c = search (rules, ranked_first)
+pub loop-family-init : goal.loop-family-init
+loop-family-init c = search (rules, ranked_first)
 
-pub count_of-count-requires-in-loop-count : goal.count_of-count-requires-in-loop-count
-count_of-count-requires-in-loop-count c = search (rules, ranked_more)
+pub loop-family-preserved : goal.loop-family-preserved
+loop-family-preserved c = search (rules, ranked_next)
 
-pub loop-count-smaller : goal.loop-count-smaller
-loop-count-smaller c = search (rules, ranked_more)
-
-pub loop-count-preserved : goal.loop-count-preserved
-loop-count-preserved c = search (rules, ranked_next)
-
-pub returns : goal.returns
-returns c = search (rules, ranked_here)
+pub unreachable-requires : goal.unreachable-requires
+unreachable-requires c = ranked_last _ _ _ _ _ c.loop-family.invariant c.loop-family.auto.family-index-end c.loop-family-test.false

@@ -1,23 +1,14 @@
+-- `supporters::is_given` meets its contract.
 -- Assumes nothing.
-use Rattle.rules.proofs.Loops.{none_yet, none_more}
-use borrow.Author.Rules.{rules}
-use Rattle.formula.proofs.Supported.{action_there, effect_below, given_by, given_by_none, effects_there}
+use Rattle.std.proofs.Common.{rules, tests, arith, refl, ◌∙◌}
+use Rattle.std.proofs.lemmas.Iterator.{YieldsList-from_range}
+use Rattle.std.proofs.lemmas.Iterator.Search.{any_from_yields_List}
+use Rattle.rules.specs.File.{task_of}
+use Rattle.formula.specs.Front.{gives_by}
+use Rattle.formula.proofs.Supported.{effects_there, given_by_any}
 use Rattle.formula.proofs.supporters.is_given.Goals as goal
 
-pub effect_count-count-requires : goal.effect_count-count-requires
-effect_count-count-requires c = search (rules, action_there)
-
-pub loop-i-init : goal.loop-i-init
-loop-i-init c = search (rules, none_yet)
-
-pub gives-requires : goal.gives-requires
-gives-requires c = search (rules, effect_below)
-
-pub returns-then-gives : goal.returns-then-gives
-returns-then-gives c = search (rules, given_by, effect_below)
-
-pub loop-i-preserved : goal.loop-i-preserved
-loop-i-preserved c = search (rules, none_more)
-
 pub returns : goal.returns
-returns c = search (rules, given_by_none, effects_there)
+returns c =
+    any_from_yields_List (gives_by (task_of c.args.file.now) c.args.a c.args.x c.args.v) _ _ c.any.result c.any.ensures.ran (YieldsList-from_range 0 c.effect_count.result c.effect_count.result refl (omega arith)) (λ i b q k. search (rules, tests))
+    ∙ given_by_any (task_of c.args.file.now) c.args.a c.args.x c.args.v c.effect_count.result (search (rules, effects_there))

@@ -1,6 +1,6 @@
 -- `supporters::put_supporters` meets its contract. The loop's invariant: those of the actions so far are written.
 -- Assumes nothing.
-use Prim.Native.Nat.{◌-◌, ◌≤◌}
+use Prim.Native.Nat.{◌≤◌}
 use Rattle.rules.specs.Problem.{problem}
 use Rattle.rules.specs.File.{task_of}
 use Rattle.formula.proofs.Supported.{SupportersPut}
@@ -8,6 +8,3 @@ use Rattle.formula.proofs.supporters.put_supporters.Given as goal
 
 abbrev pub invariant-loop-a : goal.invariant-loop-a
 invariant-loop-a l = (l.a ≤ l.all) × SupportersPut (problem (task_of l.file) l.horizon) l.s l.x l.v l.initial.out l.out l.from l.a l.at
-
-abbrev pub decreases-loop-a : goal.decreases-loop-a
-decreases-loop-a l = l.all - l.a

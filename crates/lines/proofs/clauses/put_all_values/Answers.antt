@@ -1,22 +1,13 @@
 -- Assumes nothing.
-use Rattle.lines.proofs.ByPlace.{values_start, value_room, values_more, end_room_lem, values_end, values_within}
+use Rattle.lines.proofs.ByPlace.{values_start, values_more, values_end}
 use borrow.Author.Rules.{rules}
 use Rattle.lines.proofs.clauses.put_all_values.Goals as goal
 
 pub loop-v-init : goal.loop-v-init
 loop-v-init c = search (rules, values_start)
 
-pub put_plus-end-requires : goal.put_plus-end-requires
-put_plus-end-requires c = search (rules, value_room)
-
 pub loop-v-preserved : goal.loop-v-preserved
 loop-v-preserved c = search (rules, values_more)
 
-pub put_end-requires : goal.put_end-requires
-put_end-requires c = search (rules, end_room_lem)
-
 pub returns-clause-written : goal.returns-clause-written
 returns-clause-written c = search (rules, values_end)
-
-pub returns-clause-within : goal.returns-clause-within
-returns-clause-within c = search (rules, values_within)

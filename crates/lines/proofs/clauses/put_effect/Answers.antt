@@ -1,13 +1,9 @@
 -- `clauses::put_effect` meets its contract.
 -- Assumes nothing.
 use Rattle.formula.proofs.Spelled.{effect_variable, effect_value}
-use Rattle.formula.proofs.Supported.{action_there, effect_there}
 use Rattle.lines.proofs.ByPlace.{effect_line_lem}
 use borrow.Author.Rules.{rules}
 use Rattle.lines.proofs.clauses.put_effect.Goals as goal
-
-pub effect-pair-requires : goal.effect-pair-requires
-effect-pair-requires c = search (rules, action_there, effect_there)
 
 pub pair_at-second-requires : goal.pair_at-second-requires
 pair_at-second-requires c = search (rules, effect_variable, effect_value)

@@ -1,13 +1,9 @@
 -- `clauses::put_precondition` meets its contract.
 -- Assumes nothing.
-use Rattle.formula.proofs.Spelled.{precondition_there, precondition_variable, precondition_value}
-use Rattle.formula.proofs.Supported.{action_there}
+use Rattle.formula.proofs.Spelled.{precondition_variable, precondition_value}
 use Rattle.lines.proofs.ByPlace.{precondition_line}
 use borrow.Author.Rules.{rules}
 use Rattle.lines.proofs.clauses.put_precondition.Goals as goal
-
-pub precondition-pair-requires : goal.precondition-pair-requires
-precondition-pair-requires c = search (rules, action_there, precondition_there)
 
 pub pair_at-second-requires : goal.pair_at-second-requires
 pair_at-second-requires c = search (rules, precondition_variable, precondition_value)

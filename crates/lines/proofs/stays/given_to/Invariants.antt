@@ -1,7 +1,7 @@
 -- `stays::given_to` meets its contract. The loop's invariant: no effect so far is of x.
 -- Assumes nothing.
 use mathlib.Core.Path.{◌≡◌}
-use Prim.Native.Nat.{◌-◌, ◌≤◌}
+use Prim.Native.Nat.{◌≤◌}
 use Rattle.rules.specs.Counting.{first}
 use Rattle.rules.specs.File.{task_of}
 use Rattle.lines.specs.Given.{sets_it}
@@ -9,6 +9,3 @@ use Rattle.lines.proofs.stays.given_to.Given as goal
 
 abbrev pub invariant-loop-i : goal.invariant-loop-i
 invariant-loop-i l = (l.i ≤ l.count) × (first l.i (sets_it (task_of l.file) l.x l.a) ≡ l.i)
-
-abbrev pub decreases-loop-i : goal.decreases-loop-i
-decreases-loop-i l = l.count - l.i

@@ -1,19 +1,13 @@
 -- Assumes nothing.
-use Rattle.parts.proofs.InTurn.{lines_start, end_inside, effect_there, lines_more, effect_short, effect_part}
+use Rattle.parts.proofs.InTurn.{lines_start, lines_more, effect_short, effect_part}
 use borrow.Author.Rules.{rules}
 use Rattle.parts.proofs.following.put_effects.Goals as goal
 
 pub loop-lines-init : goal.loop-lines-init
 loop-lines-init c = search (rules, lines_start)
 
-pub overflow_sub-out : goal.overflow_sub-out
-overflow_sub-out c = search (rules, end_inside)
-
 pub returns-then-out-end-lt-PAIR_ROOM : goal.returns-then-out-end-lt-PAIR_ROOM
 returns-then-out-end-lt-PAIR_ROOM c = search (rules, effect_short)
-
-pub put_effect-end-requires : goal.put_effect-end-requires
-put_effect-end-requires c = search (rules, effect_there)
 
 pub loop-lines-preserved : goal.loop-lines-preserved
 loop-lines-preserved c = search (rules, lines_more)

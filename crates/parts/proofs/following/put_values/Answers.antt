@@ -1,19 +1,13 @@
 -- Assumes nothing.
-use Rattle.parts.proofs.InTurn.{lines_start, end_inside, stays_there, lines_more, stays_short, stays_part}
+use Rattle.parts.proofs.InTurn.{lines_start, lines_more, stays_short, stays_part}
 use borrow.Author.Rules.{rules}
 use Rattle.parts.proofs.following.put_values.Goals as goal
 
 pub loop-lines-init : goal.loop-lines-init
 loop-lines-init c = search (rules, lines_start)
 
-pub overflow_sub-out : goal.overflow_sub-out
-overflow_sub-out c = search (rules, end_inside)
-
 pub returns-then-out-end-lt-LINE_ROOM : goal.returns-then-out-end-lt-LINE_ROOM
 returns-then-out-end-lt-LINE_ROOM c = search (rules, stays_short)
-
-pub put_noted-end-requires : goal.put_noted-end-requires
-put_noted-end-requires c = search (rules, stays_there)
 
 pub loop-lines-preserved : goal.loop-lines-preserved
 loop-lines-preserved c = search (rules, lines_more)

@@ -1,6 +1,6 @@
 -- `next::put_from` meets its contract.
 -- Assumes nothing.
-use Rattle.parts.proofs.Arms.{arm_at, arm_room, arm_part}
+use Rattle.parts.proofs.Arms.{arm_room, arm_part}
 use borrow.Author.Rules.{rules}
 use Rattle.parts.proofs.next.put_from.Goals as goal
 
@@ -12,9 +12,6 @@ put_preconditions-requires c = search (rules, arm_room)
 
 pub put_effects-requires : goal.put_effects-requires
 put_effects-requires c = search (rules, arm_room)
-
-pub put_staying-requires : goal.put_staying-requires
-put_staying-requires c = search (rules, arm_at)
 
 pub put_two_actions-requires : goal.put_two_actions-requires
 put_two_actions-requires c = search (rules, arm_room)

@@ -1,11 +1,7 @@
 -- Assumes nothing.
 use borrow.Author.Rules.{rules}
-use Rattle.rules.proofs.Rests.{reached_none}
 use Rattle.task.proofs.Rows.{action_counted, place_falls, counted_within, all_counted}
 use Rattle.task.proofs.filling.count_actions.Goals as goal
-
-pub loop-at-init : goal.loop-at-init
-loop-at-init c = search (rules, reached_none)
 
 pub loop-at-smaller : goal.loop-at-smaller
 loop-at-smaller c = search (rules, place_falls)

@@ -1,12 +1,7 @@
 -- `fill_actions` meets its contract. The loop's invariant: the rows before a are written, and the reading stands before action a.
 -- Assumes nothing.
-use Prim.Native.Nat.{◌-◌}
-use Rattle.task.specs.Index.{action_rows}
 use Rattle.task.proofs.Rows.{ActionsFilled}
 use Rattle.task.proofs.filling.fill_actions.Given as goal
 
 abbrev pub invariant-loop-a : goal.invariant-loop-a
 invariant-loop-a l = ActionsFilled l.start l.actions l.initial.out l.out l.a l.at l.preconditions l.effects
-
-abbrev pub decreases-loop-a : goal.decreases-loop-a
-decreases-loop-a l = action_rows - l.a

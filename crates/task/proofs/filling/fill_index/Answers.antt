@@ -2,7 +2,6 @@
 -- Assumes nothing.
 use borrow.Author.Rules.{rules}
 use native.Mathlib.Omega.{arith}
-use lib.ListN.{length-set}
 use Rattle.task.proofs.Bytes.{contents_ok, contents_long, actions_room_lem}
 use Rattle.task.proofs.Fitting.{variables_fit, actions_fit_lem, count_fits}
 use Rattle.task.proofs.Rows.{index_filled}
@@ -25,9 +24,6 @@ put_actions-requires c = search (rules, actions_fit_lem, actions_room_lem)
 
 pub overflow_cast-index : goal.overflow_cast-index
 overflow_cast-index c = search (rules, count_fits)
-
-pub shape_of-index : goal.shape_of-index
-shape_of-index c = simp length-set (omega arith)
 
 pub returns : goal.returns
 returns c = search (rules, index_filled)

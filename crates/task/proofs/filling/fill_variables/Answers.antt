@@ -1,13 +1,10 @@
 -- Assumes nothing.
 use borrow.Author.Rules.{rules}
-use Rattle.task.proofs.Rows.{variables_none, pairs_sum_fits, variables_more, variables_all}
+use Rattle.task.proofs.Rows.{variables_none, variables_more, variables_all}
 use Rattle.task.proofs.filling.fill_variables.Goals as goal
 
 pub loop-x-init : goal.loop-x-init
 loop-x-init c = search (rules, variables_none)
-
-pub overflow_add-pairs : goal.overflow_add-pairs
-overflow_add-pairs c = search (rules, pairs_sum_fits)
 
 pub loop-x-preserved : goal.loop-x-preserved
 loop-x-preserved c = search (rules, variables_more)

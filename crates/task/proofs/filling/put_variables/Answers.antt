@@ -9,6 +9,3 @@ slice_bounds-fill_variables-end-2 c = search (rules, front_long)
 
 pub fill_variables-requires : goal.fill_variables-requires
 fill_variables-requires c = search (rules, long_front)
-
-pub returns : goal.returns
-returns c = cc

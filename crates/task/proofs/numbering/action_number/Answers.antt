@@ -1,11 +1,8 @@
 -- `action_number` meets its contract.
 -- Assumes nothing.
 use borrow.Author.Rules.{rules}
-use Rattle.task.proofs.Asking.{stride_few, action_fits, action_within, action_numbered}
+use Rattle.task.proofs.Asking.{stride_few, action_within, action_numbered}
 use Rattle.task.proofs.numbering.action_number.Goals as goal
-
-pub overflow_add-values : goal.overflow_add-values
-overflow_add-values c = search (rules, action_fits)
 
 pub numbered-requires : goal.numbered-requires
 numbered-requires c = search (rules, stride_few, action_within)
