@@ -4,7 +4,6 @@ use mathlib.Core.Path.{◌≡◌, refl, sym, ap, ap₂, ◌∙◌}
 use mathlib.Core.Bool.{Bool, true, false, not, ◌||◌}
 use mathlib.Core.List.{List, [], ◌∷◌}
 use Prim.Native.Nat.{ℕ, max}
-use borrow.Author.Tests.{eq-eqb, ne_eqb}
 use lib.Dec.{eqb}
 use lib.ListN.{length}
 use Rattle.rules.proofs.Bools.{not_true, not_false}
@@ -18,12 +17,6 @@ use Rattle.rules.specs.declared.Phase.TheVariants.{ModelOpen, SaidUnsatisfiable,
 use Rattle.rules.specs.declared.Reading.{Reading}
 use Rattle.rules.specs.declared.LineAnswer.{LineAnswer}
 use Rattle.output.specs.Line.{lent, by_kind, answer_to}
-
-pub alone_short : (line : List ℕ) → length line ≡ 1 → true ≡ (eqb (length line) 1 || eqb (byte line 1) space)
-alone_short line h = rw (eq-eqb (length line) 1 h)
-
-pub alone_parted : (line : List ℕ) (b : ℕ) → (length line ≡ 1 → ⊥) → b ≡ byte line 1 → eqb b space ≡ (eqb (length line) 1 || eqb (byte line 1) space)
-alone_parted line b h e = rw (ne_eqb (length line) 1 h, e)
 
 pub comment_skipped : (reading : Reading) (line : List ℕ) (r : Bool) → r ≡ (eqb (length line) 1 || eqb (byte line 1) space) → r ≡ true
     → LineAnswer.Next reading ≡ answer_to comment reading line

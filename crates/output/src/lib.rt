@@ -19,10 +19,7 @@ fn rows_fit(highest: usize, given: usize, truth: usize) -> bool
     ensures { result ≡ both_fit highest given truth }
 {
     let words = rows::words_for(highest);
-    if given < words {
-        return false;
-    }
-    words <= truth
+    words <= given && words <= truth
 }
 
 // A reading of up to `highest` variables starts: the words needed are set to 0 in both rows.

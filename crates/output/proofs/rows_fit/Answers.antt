@@ -4,8 +4,8 @@ use borrow.Author.Rules.{rules}
 use Rattle.output.proofs.LineLaws.{fit_not, fit_by}
 use Rattle.output.proofs.rows_fit.Goals as goal
 
-pub returns-then-given-words : goal.returns-then-given-words
-returns-then-given-words c = search (rules, fit_not)
+pub returns-then-words-given : goal.returns-then-words-given
+returns-then-words-given c = search (rules, fit_by)
 
-pub returns : goal.returns
-returns c = search (rules, fit_by)
+pub returns-else-words-given : goal.returns-else-words-given
+returns-else-words-given c = search (rules, fit_not)
