@@ -150,12 +150,10 @@ pub fn precondition_clauses(
     if !acts(file, index, given, truth, UNNAMED_IN_NEGATIVE, step, a) {
         return at + count;
     }
-    let mut i = 0;
-    while i < count {
+    for i in 0..count {
         if !precondition_holds(file, index, given, truth, step, a, i) {
             return at + i;
         }
-        i += 1;
     }
     at + count
 }
@@ -202,12 +200,10 @@ pub fn effect_clauses(
     if !acts(file, index, given, truth, UNNAMED_IN_NEGATIVE, step, a) {
         return at + count;
     }
-    let mut i = 0;
-    while i < count {
+    for i in 0..count {
         if !effect_holds(file, index, given, truth, step + 1, a, i) {
             return at + i;
         }
-        i += 1;
     }
     at + count
 }

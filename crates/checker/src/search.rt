@@ -74,16 +74,14 @@ fn in_step(
     ensures { result ≡ first (start + step_clauses (task_of file.now) family) (is_unmet file.now horizon (lent given.now truth.now)) }
 {
     let items = items_of(file, index, family);
-    let mut i = 0;
     let mut at = start;
-    while i < items {
+    for i in 0..items {
         let next = at + clauses_of(file, index, family, i);
         let c = in_item(file, index, horizon, given, truth, family, step, i, at);
         if c < next {
             return c;
         }
         at = next;
-        i += 1;
     }
     at
 }
@@ -103,16 +101,14 @@ fn in_family(
 {
     let steps = steps_of(horizon, family);
     let width = step_clauses(file, index, family);
-    let mut step = 0;
     let mut at = start;
-    while step < steps {
+    for step in 0..steps {
         let next = at + width;
         let c = in_step(file, index, horizon, given, truth, family, step, at);
         if c < next {
             return c;
         }
         at = next;
-        step += 1;
     }
     at
 }
@@ -136,16 +132,14 @@ pub fn lowest_unmet(
     requires { Indexed file.now index.now × (horizon ≤ max_horizon) }
     ensures { result ≡ first (C (problem_of file.now horizon)) (is_unmet file.now horizon (lent given.now truth.now)) }
 {
-    let mut family = 0;
     let mut at = 0;
-    while family < FAMILY_COUNT {
+    for family in 0..FAMILY_COUNT {
         let next = at + family_clauses(file, index, horizon, family);
         let c = in_family(file, index, horizon, given, truth, family, at);
         if c < next {
             return c;
         }
         at = next;
-        family += 1;
     }
     at
 }
@@ -155,11 +149,9 @@ pub fn all_clauses(file: &[u8], index: &[u16], horizon: usize) -> usize
     requires { Indexed file.now index.now × (horizon ≤ max_horizon) }
     ensures { result ≡ C (problem_of file.now horizon) }
 {
-    let mut family = 0;
     let mut count = 0;
-    while family < FAMILY_COUNT {
+    for family in 0..FAMILY_COUNT {
         count += family_clauses(file, index, horizon, family);
-        family += 1;
     }
     count
 }

@@ -20,10 +20,8 @@ fn effect_is(file: &[u8], index: &[u16], a: usize, i: usize, x: usize, v: usize)
     requires { Indexed file.now index.now × (a < actionCount (task_of file.now)) × (i < length (action (task_of file.now) a).effects) }
     ensures { result ≡ effect_is file.now a x v i }
 {
-    if variable_of(effect(file, index, nth_action(a), i)) == x {
-        return value_of(effect(file, index, nth_action(a), i)) == v;
-    }
-    false
+    let pair = effect(file, index, nth_action(a), i);
+    variable_of(pair) == x && value_of(pair) == v
 }
 
 // An action has the effect x = v.
@@ -32,12 +30,10 @@ fn gives(file: &[u8], index: &[u16], a: usize, x: usize, v: usize) -> bool
     ensures { result ≡ gives_at file.now x v a }
 {
     let count = effect_count(file, index, nth_action(a));
-    let mut i = 0;
-    while i < count {
+    for i in 0..count {
         if effect_is(file, index, a, i, x, v) {
             return true;
         }
-        i += 1;
     }
     false
 }
@@ -57,6 +53,7 @@ fn supported(
 {
     let count = actions(file, index);
     let mut a = 0;
+    // A `while`: the action jumps behind the one that was found to be named true.
     while a < count {
         let from = first_action(file, index, step);
         let t = a + first_set(given, truth, UNNAMED_IN_POSITIVE, from + a, count - a);
@@ -117,12 +114,10 @@ pub fn stay_clauses(
     ensures { result ≡ first (at + clauses_of (task_of file.now) values_stay x) (is_unmet file.now horizon (lent given.now truth.now)) }
 {
     let values = size(file, x);
-    let mut v = 0;
-    while v < values {
+    for v in 0..values {
         if changes_alone(file, index, given, truth, step, x, v) {
             return at + v;
         }
-        v += 1;
     }
     at + values
 }

@@ -146,14 +146,6 @@ keeps_status reading g t line = nothing_named (kind_verdict status reading [] li
 
 -- ---- room for the rows
 
-pub fit_not : (highest g t words : ℕ) → words ≡ words_for highest → g < words → false ≡ both_fit highest g t
-unfolding both_fit
-fit_not highest g t words need h = rw (lt-leb (words_for highest) g (omega (arith, need)))
-
-pub fit_by : (highest g t words : ℕ) → words ≡ words_for highest → words ≤ g → leb words t ≡ both_fit highest g t
-unfolding both_fit
-fit_by highest g t words need h = rw (le-leb (words_for highest) g (omega (arith, need)), need)
-
 module _ (highest g t : ℕ) (r : Bool) (fit : r ≡ both_fit highest g t) (ok : not r ≡ false) where
   pub given_fits : words_for highest ≤ g
   unfolding both_fit

@@ -27,6 +27,7 @@ pub fn begin(reading: Reading) -> Feed
 }
 
 // Whether so many words and bytes are room for the rows of a reading and for a line.
+#[tactic(auto, unfolding(crate::specs::Feeding::room_for))]
 fn has_room(answer: LineAnswer, given: usize, truth: usize, line: usize) -> bool
     ensures { result ≡ room_for answer given truth line }
 {

@@ -15,6 +15,7 @@ use rules::{LineAnswer, Phase, Reading, Refusal};
 const MAX_LINE: usize = 4096;
 
 // Whether rows of these lengths have the words that `highest` variables need.
+#[tactic(auto, unfolding(crate::specs::Line::both_fit))]
 fn rows_fit(highest: usize, given: usize, truth: usize) -> bool
     ensures { result ≡ both_fit highest given truth }
 {

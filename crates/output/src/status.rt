@@ -53,8 +53,8 @@ pub fn status_line(reading: Reading, line: &[u8]) -> LineAnswer
             phase: Phase::SaidUnknown,
         });
     }
-    let reached = texts::shared(line, satisfiable).max(texts::shared(line, unsatisfiable).max(
-        texts::shared(line, unknown),
-    ));
+    let reached = texts::shared(line, satisfiable)
+        .max(texts::shared(line, unsatisfiable))
+        .max(texts::shared(line, unknown));
     LineAnswer::Refused(Refusal::Grammar(reached))
 }
