@@ -18,6 +18,8 @@ use Rattle.rules.proofs.Pairs.{PairAt}
 use Rattle.task.specs.Index.{Indexed}
 use Rattle.task.specs.Numbers.{at_any_horizon}
 use Rattle.rows.specs.Bits.{counts_true}
+use Rattle.checker.specs.declared.sizes.Family.{Family}
+use Rattle.checker.specs.declared.sizes.Family.TheVariants.{StartValues, GoalPairs, SomeValue, TwoValues, PreconditionsHold, EffectsHold, ValuesStay, TwoActions}
 
 -- ---- the bits
 
@@ -65,6 +67,16 @@ values_stay = 6
 
 abbrev pub two_actions : ℕ
 two_actions = 7
+
+abbrev pub family_number : Family → ℕ
+family_number StartValues = start_values
+family_number GoalPairs = goal_pairs
+family_number SomeValue = some_value
+family_number TwoValues = two_values
+family_number PreconditionsHold = preconditions_hold
+family_number EffectsHold = effects_hold
+family_number ValuesStay = values_stay
+family_number TwoActions = two_actions
 
 -- how many steps a family speaks of
 unfoldable pub steps_of : (k f : ℕ) → ℕ
