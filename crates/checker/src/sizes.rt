@@ -5,10 +5,10 @@ ghost use Rattle.rules.specs.File.{task_of};
 ghost use Rattle.task.specs.Index.{Indexed};
 ghost use Rattle.checker.specs.Order.{steps_of, items_of, clauses_of, step_clauses, family_number};
 
+use crate::action_pairs::{ActionPairs, pair_count};
 use pairs::pairs_below;
-use task::asked::{effect_count, goals, precondition_count, size, variables};
+use task::asked::{goals, size, variables};
 use task::index::{actions, effects_before, preconditions_before, value_pairs_before, values};
-use task::numbering::nth_action;
 
 // The families of clauses, in the order of their numbers.
 #[derive(Clone, Copy)]
@@ -73,8 +73,8 @@ pub fn clauses_of(file: &[u8], index: &[u16], family: Family, i: usize) -> usize
     match family {
         Family::StartValues | Family::GoalPairs | Family::SomeValue => 1,
         Family::TwoValues => pairs_below(size(file, i)),
-        Family::PreconditionsHold => precondition_count(file, index, nth_action(i)),
-        Family::EffectsHold => effect_count(file, index, nth_action(i)),
+        Family::PreconditionsHold => pair_count(file, index, ActionPairs::Preconditions, i),
+        Family::EffectsHold => pair_count(file, index, ActionPairs::Effects, i),
         Family::ValuesStay => size(file, i),
         Family::TwoActions => pairs_below(actions(file, index)),
     }

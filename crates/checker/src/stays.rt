@@ -9,18 +9,19 @@ ghost use Rattle.rows.specs.Lent.{lent};
 ghost use Rattle.checker.specs.Order.{is_unmet, clauses_of, Come, values_stay};
 ghost use Rattle.checker.specs.Staying.{effect_is, gives_at, supported_at, changes_alone};
 
+use crate::action_pairs::{ActionPairs, nth_pair, pair_count};
 use crate::bits::{UNNAMED_IN_NEGATIVE, UNNAMED_IN_POSITIVE, first_action, value_holds};
 use rows::first_set;
-use task::asked::{effect, effect_count, size};
+use task::asked::size;
 use task::index::actions;
-use task::numbering::{nth_action, value_of, variable_of};
+use task::numbering::{value_of, variable_of};
 
 // Effect i of an action is x = v.
 fn effect_is(file: &[u8], index: &[u16], a: usize, i: usize, x: usize, v: usize) -> bool
     requires { Indexed file.now index.now × (a < actionCount (task_of file.now)) × (i < length (action (task_of file.now) a).effects) }
     ensures { result ≡ effect_is file.now a x v i }
 {
-    let pair = effect(file, index, nth_action(a), i);
+    let pair = nth_pair(file, index, ActionPairs::Effects, a, i);
     variable_of(pair) == x && value_of(pair) == v
 }
 
@@ -29,7 +30,7 @@ fn gives(file: &[u8], index: &[u16], a: usize, x: usize, v: usize) -> bool
     requires { Indexed file.now index.now × (a < actionCount (task_of file.now)) }
     ensures { result ≡ gives_at file.now x v a }
 {
-    let count = effect_count(file, index, nth_action(a));
+    let count = pair_count(file, index, ActionPairs::Effects, a);
     for i in 0..count {
         if effect_is(file, index, a, i, x, v) {
             return true;

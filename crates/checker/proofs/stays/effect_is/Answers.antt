@@ -1,12 +1,8 @@
 -- `effect_is` meets its contract.
 -- Assumes nothing.
-use Rattle.checker.proofs.ItemLaws.{effect_asked}
 use Rattle.checker.proofs.StayLaws.{effect_other, effect_same}
 use borrow.Author.Rules.{rules}
 use Rattle.checker.proofs.stays.effect_is.Goals as goal
-
-pub effect-pair-requires : goal.effect-pair-requires
-effect-pair-requires c = search (rules, effect_asked)
 
 pub returns-then-variable_of-x : goal.returns-then-variable_of-x
 returns-then-variable_of-x c = search (rules, effect_same)
