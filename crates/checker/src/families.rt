@@ -3,7 +3,7 @@ ghost use Rattle.std.specs.Prelude.{◌≡◌, ◌+◌};
 ghost use Rattle.rules.specs.Counting.{first};
 ghost use Rattle.rules.specs.File.{task_of};
 ghost use Rattle.rows.specs.Lent.{lent};
-ghost use Rattle.checker.specs.Order.{is_unmet, clauses_of, Come, pairs_family, start_values, goal_pairs, some_value, two_values, two_actions};
+ghost use Rattle.checker.specs.Order.{is_unmet, clauses_of, Come, pairs_family, start_values, goal_pairs, some_value, two_values, preconditions_hold, effects_hold, two_actions};
 
 use crate::action_pairs::{ActionPairs, nth_pair, pair_count, told_at};
 use crate::bits::{
@@ -104,7 +104,7 @@ pub fn two_values_clauses(
 }
 
 // The pairs of a list of an action that is not named false at a step are named to hold.
-pub fn pair_clauses(
+fn pair_clauses(
     file: &[u8],
     index: &[u16],
     horizon: usize,
@@ -130,6 +130,42 @@ pub fn pair_clauses(
         }
     }
     at + count
+}
+
+// The preconditions of an action that is not named false at a step are named to hold there.
+pub fn precondition_clauses(
+    file: &[u8],
+    index: &[u16],
+    horizon: usize,
+    given: &[u64],
+    truth: &[u64],
+    step: usize,
+    a: usize,
+    at: usize,
+) -> usize
+    requires { Come file.now index.now (lent given.now truth.now) horizon preconditions_hold step a at }
+    ensures { result ≡ first (at + clauses_of (task_of file.now) preconditions_hold a) (is_unmet file.now horizon (lent given.now truth.now)) }
+{
+    let list = ActionPairs::Preconditions;
+    pair_clauses(file, index, horizon, given, truth, list, step, a, at)
+}
+
+// Its effects are named to hold at the next.
+pub fn effect_clauses(
+    file: &[u8],
+    index: &[u16],
+    horizon: usize,
+    given: &[u64],
+    truth: &[u64],
+    step: usize,
+    a: usize,
+    at: usize,
+) -> usize
+    requires { Come file.now index.now (lent given.now truth.now) horizon effects_hold step a at }
+    ensures { result ≡ first (at + clauses_of (task_of file.now) effects_hold a) (is_unmet file.now horizon (lent given.now truth.now)) }
+{
+    let list = ActionPairs::Effects;
+    pair_clauses(file, index, horizon, given, truth, list, step, a, at)
 }
 
 // Of every two actions at a step one is named false.

@@ -10,10 +10,9 @@ ghost use Rattle.task.specs.Index.{Indexed};
 ghost use Rattle.rows.specs.Lent.{lent};
 ghost use Rattle.checker.specs.Order.{is_unmet, steps_of, clauses_of, step_clauses, Reached, Come, family_number};
 
-use crate::action_pairs::ActionPairs;
 use crate::families::{
-    goal_clause, pair_clauses, some_value_clause, start_clause, two_actions_clauses,
-    two_values_clauses,
+    effect_clauses, goal_clause, precondition_clauses, some_value_clause, start_clause,
+    two_actions_clauses, two_values_clauses,
 };
 use crate::sizes::{FAMILIES, Family, clauses_of, items_of, step_clauses, steps_of};
 use crate::stays::stay_clauses;
@@ -39,13 +38,9 @@ fn in_item(
         Family::SomeValue => some_value_clause(file, index, horizon, given, truth, step, i, at),
         Family::TwoValues => two_values_clauses(file, index, horizon, given, truth, step, i, at),
         Family::PreconditionsHold => {
-            let list = ActionPairs::Preconditions;
-            pair_clauses(file, index, horizon, given, truth, list, step, i, at)
+            precondition_clauses(file, index, horizon, given, truth, step, i, at)
         }
-        Family::EffectsHold => {
-            let list = ActionPairs::Effects;
-            pair_clauses(file, index, horizon, given, truth, list, step, i, at)
-        }
+        Family::EffectsHold => effect_clauses(file, index, horizon, given, truth, step, i, at),
         Family::ValuesStay => stay_clauses(file, index, horizon, given, truth, step, i, at),
         Family::TwoActions => two_actions_clauses(file, index, horizon, given, truth, step, at),
     }

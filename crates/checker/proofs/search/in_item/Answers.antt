@@ -28,14 +28,14 @@ two_values_clauses-requires c = search (rules, come_same)
 pub returns-in-TwoValues : goal.returns-in-TwoValues
 returns-in-TwoValues c = search (rules, answer_same)
 
-pub pair_clauses-requires : goal.pair_clauses-requires
-pair_clauses-requires c = search (rules, come_same)
+pub precondition_clauses-requires : goal.precondition_clauses-requires
+precondition_clauses-requires c = search (rules, come_same)
 
 pub returns-in-PreconditionsHold : goal.returns-in-PreconditionsHold
 returns-in-PreconditionsHold c = search (rules, answer_same)
 
-pub pair_clauses-requires-in-EffectsHold : goal.pair_clauses-requires-in-EffectsHold
-pair_clauses-requires-in-EffectsHold c = search (rules, come_same)
+pub effect_clauses-requires : goal.effect_clauses-requires
+effect_clauses-requires c = search (rules, come_same)
 
 pub returns-in-EffectsHold : goal.returns-in-EffectsHold
 returns-in-EffectsHold c = search (rules, answer_same)
