@@ -129,8 +129,3 @@ module _ (file given is_true entries : List ℕ) (k : ℕ) (phase : Phase) (p : 
     pub late_stated : (written : List ℕ) → v ≡ Accepted → written ≡ schedule_of (problem_of file k) (model_in (lent given is_true)) ++ drop k entries
         → written ≡ end_entries file k phase (lent given is_true) entries
     late_stated written h w = entries_stated file given is_true entries written k phase v (end_same file given is_true entries k phase p e f v g) h w
-
--- ---- what the status says
-
-pub said : (phase p : Phase) (v : Verdict) → phase ≡ p → v ≡ ending p → v ≡ ending phase
-said phase p v e h = rw e h

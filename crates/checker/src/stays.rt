@@ -17,6 +17,7 @@ use task::index::actions;
 use task::numbering::{value_of, variable_of};
 
 // Effect i of an action is x = v.
+#[tactic(auto, unfolding(crate::specs::Staying::effect_is))]
 fn effect_is(file: &[u8], index: &[u16], a: usize, i: usize, x: usize, v: usize) -> bool
     requires { Indexed file.now index.now × (a < actionCount (task_of file.now)) × (i < length (action (task_of file.now) a).effects) }
     ensures { result ≡ effect_is file.now a x v i }
@@ -70,6 +71,7 @@ fn supported(
 }
 
 // A value is not named false at the next step and not named true at this one, and no action that is named true gives it.
+#[tactic(auto, unfolding(crate::specs::Staying::changes_alone))]
 fn changes_alone(
     file: &[u8],
     index: &[u16],
