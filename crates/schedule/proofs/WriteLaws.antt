@@ -86,11 +86,6 @@ module _ (P : Problem) (s b f : ℕ) (ef : f ≡ action_number P s b) where
 
 -- ---- step by step
 
-pub step_written : (P : Problem) (s e : ℕ) (σ : State) (row row₁ row₂ : List ℕ) → row₁ ≡ values_set P s σ (n P.task) row → row₂ ≡ entry_set P s e row₁
-    → row₂ ≡ step_set P s e σ row
-unfolding step_set
-step_written P s e σ row row₁ row₂ e₁ e₂ = e₂ ∙ rw e₁
-
 module _ (P : Problem) (entries row₀ : List ℕ) where
   pub steps_none : row₀ ≡ steps_set P entries 0 row₀
   unfolding steps_set

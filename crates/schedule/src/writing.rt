@@ -57,6 +57,7 @@ fn set_entry(file: &[u8], index: &[u16], step: usize, e: usize, row: &mut [u64])
 }
 
 // All that is true at a step before the last: the values of its state, and its action.
+#[tactic(auto, unfolding(crate::specs::Written::step_set))]
 fn set_step(file: &[u8], index: &[u16], step: usize, e: usize, values: &[u8], row: &mut [u64])
     requires { Indexed file.now index.now × (step ≤ max_horizon) × (e ≤ actionCount (task_of file.now)) × Inside (task_of file.now) values.now }
     ensures { row.new ≡ step_set (at_any_horizon file.now) step e values.now row.old }
