@@ -32,6 +32,7 @@ fn take_piece(
     if piece.len() == 0 {
         return Ok(closed);
     }
+    // A match, as the refusal is made of the place and of how far the word reaches.
     let number = match words::word_of(piece) {
         Ok(number) => number,
         Err(reached) => {
@@ -66,6 +67,7 @@ fn try_numbers(highest: usize, given: &mut [u64], line: &[u8]) -> Result<bool, S
     while gap < line.len() {
         let at = gap + 1;
         let end = lent_bytes::words::word_end(line, at);
+        // Kept as a match: tried `map_err` and `?`, the proof of the early return did not close.
         match take_piece(highest, closed, given, &line[at..end], at) {
             Ok(after) => {
                 closed = after;
