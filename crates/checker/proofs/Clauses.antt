@@ -23,7 +23,9 @@ use Rattle.rules.proofs.Counting.{sum_to-const, any_for_each, one_of}
 use Rattle.rules.proofs.Pairs.{PairAt}
 use Rattle.rules.proofs.ByNumber.{clauses_before, clause1, clause2, clause3, clause4, clause5, clause6, clause7, clause8}
 use Rattle.rows.specs.Bits.{counts_true}
-use Rattle.checker.specs.Order.{holds_at, pair_at, acts_at, is_unmet, steps_of, items_of, clauses_of, step_clauses, first_clause}
+use Rattle.checker.specs.Order.{holds_at, pair_at, acts_at, is_unmet, steps_of, items_of, clauses_of, step_clauses, first_clause, pairs_of, pairs_family, told_at}
+use Rattle.checker.specs.declared.action_pairs.ActionPairs.{ActionPairs}
+use Rattle.checker.specs.declared.action_pairs.ActionPairs.TheVariants.{Preconditions, Effects}
 
 first_not : (a b : Bool) → not (not a || (b || false)) ≡ (a && not b)
 first_not true true = refl
@@ -158,7 +160,7 @@ module _ (file : List ℕ) (rows : Rows) (k : ℕ) where
       ∙ minus_minus rows (value_number P s x v) (value_number P s x w)
       ∙ ap₂ ◌&&◌ (value_same true s x v) (value_same true s x w)
 
-  pub false_precondition : (s a at i : ℕ) → s < steps_of k 4 → a < items_of T 4 → at ≡ first_clause T k 4 s a → i < clauses_of T 4 a
+  false_precondition : (s a at i : ℕ) → s < steps_of k 4 → a < items_of T 4 → at ≡ first_clause T k 4 s a → i < clauses_of T 4 a
       → is_unmet file k rows (at + i)
       ≡ (acts_at true file rows s a && not (pair_at file rows s (pair (action T a).preconditions i)))
   unfolding pair_at steps_of items_of first_clause step_clauses clauses_of problem_of
@@ -167,7 +169,7 @@ module _ (file : List ℕ) (rows : Rows) (k : ℕ) where
       ∙ minus_plus rows (action_number P s a) (pair_number P s (pair (action T a).preconditions i))
       ∙ ap₂ (λ a b. a && not b) (action_same true s a) (value_same false s (pair (action T a).preconditions i).variable (pair (action T a).preconditions i).value)
 
-  pub false_effect : (s a at i : ℕ) → s < steps_of k 5 → a < items_of T 5 → at ≡ first_clause T k 5 s a → i < clauses_of T 5 a
+  false_effect : (s a at i : ℕ) → s < steps_of k 5 → a < items_of T 5 → at ≡ first_clause T k 5 s a → i < clauses_of T 5 a
       → is_unmet file k rows (at + i)
       ≡ (acts_at true file rows s a && not (pair_at file rows (suc s) (pair (action T a).effects i)))
   unfolding pair_at steps_of items_of first_clause step_clauses clauses_of problem_of
@@ -175,6 +177,14 @@ module _ (file : List ℕ) (rows : Rows) (k : ℕ) where
       by_clause (at + i) _ (clause6 P (at + i) s a i hs ha hi (omega arith))
       ∙ minus_plus rows (action_number P s a) (pair_number P (suc s) (pair (action T a).effects i))
       ∙ ap₂ (λ a b. a && not b) (action_same true s a) (value_same false (suc s) (pair (action T a).effects i).variable (pair (action T a).effects i).value)
+
+  -- the same of each list of an action's pairs
+  pub false_pair : (list : ActionPairs) (s a at i : ℕ) → s < steps_of k (pairs_family list) → a < items_of T (pairs_family list)
+      → at ≡ first_clause T k (pairs_family list) s a → i < clauses_of T (pairs_family list) a
+      → is_unmet file k rows (at + i)
+      ≡ (acts_at true file rows s a && not (pair_at file rows (told_at list s) (pair (pairs_of list (action T a)) i)))
+  false_pair Preconditions = false_precondition
+  false_pair Effects = false_effect
 
   pub false_stay : (s x at v : ℕ) → s < steps_of k 6 → x < items_of T 6 → at ≡ first_clause T k 6 s x → v < clauses_of T 6 x
       → is_unmet file k rows (at + v)

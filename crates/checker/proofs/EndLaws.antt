@@ -1,18 +1,18 @@
 -- The end of a reading, way by way.
 -- Assumes nothing.
-use mathlib.Core.Path.{◌≡◌, sym, ap, ap₂, ◌∙◌}
+use mathlib.Core.Path.{◌≡◌, sym, ap, ◌∙◌}
 use mathlib.Core.Bool.{Bool, true, false, not, ◌&&◌}
 use mathlib.Core.List.{List, [], ◌∷◌, ◌++◌}
 use Prim.Native.Nat.{ℕ, ◌≤◌, ◌<◌}
 use native.Mathlib.Omega.{arith}
-use borrow.Author.Tests.{le-leb, lt-leb, leb-true}
+use borrow.Author.Tests.{leb-true}
 use lib.Dec.{leb}
 use lib.ListN.{length, drop}
 use Rattle.rules.specs.Counting.{first}
 use Rattle.rules.specs.Answers.{demand, judge, in_turn}
 use Rattle.rules.specs.Numbering.{N}
 use Rattle.rules.specs.Families.{C}
-use Rattle.rules.specs.Rows.{Rows, words_for}
+use Rattle.rules.specs.Rows.{Rows}
 use Rattle.rules.specs.Truth.{Model, model_in}
 use Rattle.rules.specs.Lines.{rows_fit}
 use Rattle.rules.specs.Output.{ending, model_rules, outcome}
@@ -41,32 +41,6 @@ module _ (file : List ℕ) (k : ℕ) (rows : Rows) (c n : ℕ) (g : c ≡ first 
   unfolding model_rules is_unmet
   clauses_met b =
       sym (judge_none (C (problem_of file k)) _ UnmetClause [] (omega (arith, g, first_le (C (problem_of file k)) (is_unmet file k rows))) ∙ judge_nil)
-
--- ---- 10
-
-module _ (file given is_true : List ℕ) (k m w room : ℕ) (e : m ≡ N (problem_of file k)) (h : w ≡ words_for m) where
-  abbrev fits : Bool
-  fits = rows_fit (N (problem_of file k)) (lent given is_true) && leb k room
-
-  needed : w ≡ words_for (N (problem_of file k))
-  needed = h ∙ ap words_for e
-
-  pub given_short : length given < w → false ≡ fits
-  unfolding rows_fit
-  given_short l =
-      sym (ap (λ b. (b && leb (words_for (N (problem_of file k))) (length is_true)) && leb k room) (lt-leb (words_for (N (problem_of file k))) (length given) (omega (arith, needed))))
-
-  pub true_short : w ≤ length given → length is_true < w → false ≡ fits
-  unfolding rows_fit
-  true_short l u =
-      sym (ap₂ (λ a b. (a && b) && leb k room) (le-leb (words_for (N (problem_of file k))) (length given) (omega (arith, needed)))
-      (lt-leb (words_for (N (problem_of file k))) (length is_true) (omega (arith, needed))))
-
-  pub rows_long : w ≤ length given → w ≤ length is_true → leb k room ≡ fits
-  unfolding rows_fit
-  rows_long l u =
-      sym (ap₂ (λ a b. (a && b) && leb k room) (le-leb (words_for (N (problem_of file k))) (length given) (omega (arith, needed)))
-      (le-leb (words_for (N (problem_of file k))) (length is_true) (omega (arith, needed))))
 
 -- ---- in their order
 
@@ -155,8 +129,3 @@ module _ (file given is_true entries : List ℕ) (k : ℕ) (phase : Phase) (p : 
     pub late_stated : (written : List ℕ) → v ≡ Accepted → written ≡ schedule_of (problem_of file k) (model_in (lent given is_true)) ++ drop k entries
         → written ≡ end_entries file k phase (lent given is_true) entries
     late_stated written h w = entries_stated file given is_true entries written k phase v (end_same file given is_true entries k phase p e f v g) h w
-
--- ---- what the status says
-
-pub said : (phase p : Phase) (v : Verdict) → phase ≡ p → v ≡ ending p → v ≡ ending phase
-said phase p v e h = rw e h

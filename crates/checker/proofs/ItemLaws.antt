@@ -4,10 +4,9 @@ use mathlib.Core.Path.{◌≡◌, refl, sym, ap, ap₂, ◌∙◌}
 use mathlib.Core.Logic.{⊎_elim}
 use mathlib.Core.Bool.{Bool, true, false, not, ◌&&◌}
 use mathlib.Core.List.{List}
-use Prim.Native.Nat.{ℕ, suc, ◌+◌, ◌*◌, ◌^◌, ◌≤◌, ◌<◌}
+use Prim.Native.Nat.{ℕ, ◌+◌, ◌*◌, ◌^◌, ◌≤◌, ◌<◌}
 use native.Mathlib.Omega.{arith}
 use native.Mathlib.Nat.{mul-le-mul}
-use native.Mathlib.Numerals.{add-one}
 use mir.Syntax.{w64}
 use mir.Val.{Fits}
 use lib.ListN.{length}
@@ -27,9 +26,11 @@ use Rattle.task.specs.Index.{Indexed}
 use Rattle.task.specs.Numbers.{at_any_horizon}
 use Rattle.rows.specs.Bits.{counts_true, set_from}
 use Rattle.rows.specs.Bound.{most_variables}
-use Rattle.checker.specs.Order.{holds_at, pair_at, acts_at, is_unmet, steps_of, items_of, clauses_of, Come, FirstPair, start_values, goal_pairs, some_value, two_values, preconditions_hold, effects_hold, two_actions}
+use Rattle.checker.specs.Order.{holds_at, pair_at, acts_at, is_unmet, steps_of, items_of, clauses_of, Come, FirstPair, start_values, goal_pairs, some_value, two_values, preconditions_hold, two_actions, pairs_of, pairs_family, told_at}
+use Rattle.checker.specs.declared.action_pairs.ActionPairs.{ActionPairs}
+use Rattle.checker.specs.declared.action_pairs.ActionPairs.TheVariants.{Preconditions, Effects}
 use Rattle.checker.proofs.Widths.{steps_most, item_few}
-use Rattle.checker.proofs.Clauses.{false_start, false_goal, some_true, some_false, false_values, false_precondition, false_effect, false_actions}
+use Rattle.checker.proofs.Clauses.{false_start, false_goal, some_true, some_false, false_values, false_pair, false_actions}
 
 -- ---- a chunk of numbers behind the ones that were searched
 
@@ -86,17 +87,15 @@ module _ (file index : List ℕ) (rows : Rows) (k : ℕ) where
     unfolding items_of
     two_item c = c.item
 
-    pub precondition_item : (p : ℕ) → Come file index rows k preconditions_hold s i at → p ≡ i → p < A T
+    pub pair_action : (list : ActionPairs) → Come file index rows k (pairs_family list) s i at → i < A T
     unfolding items_of
-    precondition_item p c e = let l : i < A T = c.item in omega arith
+    pair_action Preconditions c = c.item
+    pair_action Effects c = c.item
 
-    pub effect_item : (p : ℕ) → Come file index rows k effects_hold s i at → p ≡ i → p < A T
-    unfolding items_of
-    effect_item p c e = let l : i < A T = c.item in omega arith
-
-    pub effect_step : Come file index rows k effects_hold s i at → s + 1 ≤ max_horizon
+    pub pair_step : (list : ActionPairs) → Come file index rows k (pairs_family list) s i at → told_at list s ≤ max_horizon
     unfolding steps_of
-    effect_step c = let l : s < k = c.step in omega (arith, c.reached.low)
+    pair_step Preconditions c = step_low preconditions_hold s i at c
+    pair_step Effects c = let l : s < k = c.step in omega (arith, c.reached.low)
 
     pub start_fits : Come file index rows k start_values s i at → Fits w64 (at + 1)
     unfolding clauses_of
@@ -124,36 +123,14 @@ module _ (file index : List ℕ) (rows : Rows) (k : ℕ) where
     pub goal_value : (x v : ℕ) → Come file index rows k goal_pairs s i at → x ≡ (pair T.goal i).variable → v ≡ (pair T.goal i).value → v < d T x
     goal_value x v c e f = rw (e, f) (goal_inside c).value_below
 
-    module _ (m : ℕ) where
-      -- the pairs of an action are inside, and so few that their numbers fit
-      pub precondition_fits : (p t : ℕ) → Come file index rows k preconditions_hold s i at → p ≡ i → m ≡ length (action T p).preconditions → t ≤ m → Fits w64 (at + t)
-      unfolding clauses_of
-      precondition_fits p t c e h l =
-          let z : m ≡ length (action T i).preconditions = h ∙ ap (λ a. length (action T a).preconditions) e in
-          record { fits = omega (arith, item_bound preconditions_hold s i at c) }
+    -- an item of these families has a clause for each pair
+    pub pair_width : (list : ActionPairs) → length (pairs_of list (action T i)) ≡ clauses_of T (pairs_family list) i
+    unfolding clauses_of
+    pair_width Preconditions = refl
+    pair_width Effects = refl
 
-      pub effect_fits : (p t : ℕ) → Come file index rows k effects_hold s i at → p ≡ i → m ≡ length (action T p).effects → t ≤ m → Fits w64 (at + t)
-      unfolding clauses_of
-      effect_fits p t c e h l =
-          let z : m ≡ length (action T i).effects = h ∙ ap (λ a. length (action T a).effects) e in
-          record { fits = omega (arith, item_bound effects_hold s i at c) }
-
-      pub precondition_there : (p t : ℕ) → p ≡ i → m ≡ length (action T p).preconditions → t < m → t < length (action T i).preconditions
-      precondition_there p t e h l = rw e at (rw h at l)
-
-      pub effect_there : (p t : ℕ) → p ≡ i → m ≡ length (action T p).effects → t < m → t < length (action T i).effects
-      effect_there p t e h l = rw e at (rw h at l)
-
-    pub precondition_action : Come file index rows k preconditions_hold s i at → i < A T
-    unfolding items_of
-    precondition_action c = c.item
-
-    pub effect_action : Come file index rows k effects_hold s i at → i < A T
-    unfolding items_of
-    effect_action c = c.item
-
-    pub effect_next : Come file index rows k effects_hold s i at → Fits w64 (s + 1)
-    effect_next c = record { fits = omega (arith, effect_step c) }
+    pub pair_fits : (list : ActionPairs) (m t : ℕ) → Come file index rows k (pairs_family list) s i at → m ≡ length (pairs_of list (action T i)) → t ≤ m → Fits w64 (at + t)
+    pair_fits list m t c h l = record { fits = omega (arith, item_bound (pairs_family list) s i at c, pair_width list) }
 
   -- ---- the numbers of a step, one behind the other
 
@@ -306,110 +283,58 @@ module _ (q : ℕ → Bool) (at : ℕ) where
         let y : at + t ≡ at + n = omega arith in
         z ∙ sym none ∙ ap (λ m. first m q) y
 
-module _ (file index : List ℕ) (rows : Rows) (k s a at : ℕ) (c : Come file index rows k preconditions_hold s a at) (p m : ℕ) (e : p ≡ a)
-    (h : m ≡ length (action (task_of file) p).preconditions) (acting : Bool) (g : acting ≡ acts_at true file rows s a) where
-  abbrev count4 : ℕ
-  count4 = clauses_of (task_of file) preconditions_hold a
+module _ (file index : List ℕ) (rows : Rows) (k : ℕ) (list : ActionPairs) (s a at : ℕ) (c : Come file index rows k (pairs_family list) s a at) (m : ℕ)
+    (h : m ≡ length (pairs_of list (action (task_of file) a))) (acting : Bool) (g : acting ≡ acts_at true file rows s a) where
+  abbrev count : ℕ
+  count = clauses_of (task_of file) (pairs_family list) a
 
-  precondition_count : m ≡ count4
-  unfolding clauses_of
-  precondition_count = h ∙ ap (λ a. length (action (task_of file) a).preconditions) e
+  count_is : m ≡ count
+  count_is = h ∙ pair_width file index rows k s a at list
 
-  pub precondition_idle : not acting ≡ true → at + m ≡ first (at + count4) (is_unmet file k rows)
-  precondition_idle z =
+  pub pair_idle : not acting ≡ true → at + m ≡ first (at + count) (is_unmet file k rows)
+  pair_idle z =
       let idle : acts_at true file rows s a ≡ false = sym g ∙ not_true acting z in
-      ap (λ m. at + m) precondition_count
-      ∙ chunk_true (is_unmet file k rows) at c.reached.none count4 (λ j l.
-      false_precondition file rows k s a at j c.step c.item c.reached.is l
-      ∙ ap (λ b. b && not (pair_at file rows s (pair (action (task_of file) a).preconditions j))) idle)
+      ap (λ m. at + m) count_is
+      ∙ chunk_true (is_unmet file k rows) at c.reached.none count (λ j l.
+      false_pair file rows k list s a at j c.step c.item c.reached.is l
+      ∙ ap (λ b. b && not (pair_at file rows (told_at list s) (pair (pairs_of list (action (task_of file) a)) j))) idle)
 
-  pub precondition_all : (t : ℕ) → first (at + t) (is_unmet file k rows) ≡ at + t → t ≤ m → m ≤ t → at + m ≡ first (at + count4) (is_unmet file k rows)
-  precondition_all t none l u = pairs_all (is_unmet file k rows) at t none m count4 l u precondition_count
+  pub pair_all : (t : ℕ) → first (at + t) (is_unmet file k rows) ≡ at + t → t ≤ m → m ≤ t → at + m ≡ first (at + count) (is_unmet file k rows)
+  pair_all t none l u = pairs_all (is_unmet file k rows) at t none m count l u count_is
 
-  module _ (z : not acting ≡ false) (t : ℕ) (none : first (at + t) (is_unmet file k rows) ≡ at + t) (l : t < m) (b : Bool)
-      (hb : b ≡ pair_at file rows s (pair (action (task_of file) a).preconditions t)) where
-    precondition_is : is_unmet file k rows (at + t) ≡ not b
-    precondition_is =
-        let there : t < count4 = omega (arith, precondition_count) in
-        false_precondition file rows k s a at t c.step c.item c.reached.is there
-        ∙ ap₂ (λ a b. a && not b) (sym g ∙ not_false acting z) (sym hb)
+  module _ (z : not acting ≡ false) (t : ℕ) (none : first (at + t) (is_unmet file k rows) ≡ at + t) (l : t < m) (told x v : ℕ) (b : Bool)
+      (step : told ≡ told_at list s) (variable : x ≡ (pair (pairs_of list (action (task_of file) a)) t).variable)
+      (value : v ≡ (pair (pairs_of list (action (task_of file) a)) t).value) (hb : b ≡ holds_at false file rows told x v) where
+    pair_is : is_unmet file k rows (at + t) ≡ not b
+    unfolding pair_at
+    pair_is =
+        let there : t < count = omega (arith, count_is) in
+        false_pair file rows k list s a at t c.step c.item c.reached.is there
+        ∙ ap₂ (λ a b. a && not b) (sym g ∙ not_false acting z)
+        (sym (hb ∙ ap (λ u. holds_at false file rows u x v) step ∙ ap₂ (holds_at false file rows (told_at list s)) variable value))
 
-    pub precondition_fails : not b ≡ true → at + t ≡ first (at + count4) (is_unmet file k rows)
-    precondition_fails f = pairs_found (is_unmet file k rows) at t none count4 (omega (arith, precondition_count)) (precondition_is ∙ f)
+    pub pair_fails : not b ≡ true → at + t ≡ first (at + count) (is_unmet file k rows)
+    pair_fails f = pairs_found (is_unmet file k rows) at t none count (omega (arith, count_is)) (pair_is ∙ f)
 
-    pub precondition_again : not b ≡ false → first (at + (t + 1)) (is_unmet file k rows) ≡ at + (t + 1)
-    precondition_again f = pairs_more (is_unmet file k rows) at t none (precondition_is ∙ f)
-
-module _ (file index : List ℕ) (rows : Rows) (k s a at : ℕ) (c : Come file index rows k effects_hold s a at) (p m : ℕ) (e : p ≡ a)
-    (h : m ≡ length (action (task_of file) p).effects) (acting : Bool) (g : acting ≡ acts_at true file rows s a) where
-  abbrev count5 : ℕ
-  count5 = clauses_of (task_of file) effects_hold a
-
-  effect_count : m ≡ count5
-  unfolding clauses_of
-  effect_count = h ∙ ap (λ a. length (action (task_of file) a).effects) e
-
-  pub effect_idle : not acting ≡ true → at + m ≡ first (at + count5) (is_unmet file k rows)
-  effect_idle z =
-      let idle : acts_at true file rows s a ≡ false = sym g ∙ not_true acting z in
-      ap (λ m. at + m) effect_count
-      ∙ chunk_true (is_unmet file k rows) at c.reached.none count5 (λ j l.
-      false_effect file rows k s a at j c.step c.item c.reached.is l
-      ∙ ap (λ b. b && not (pair_at file rows (suc s) (pair (action (task_of file) a).effects j))) idle)
-
-  pub effect_all : (t : ℕ) → first (at + t) (is_unmet file k rows) ≡ at + t → t ≤ m → m ≤ t → at + m ≡ first (at + count5) (is_unmet file k rows)
-  effect_all t none l u = pairs_all (is_unmet file k rows) at t none m count5 l u effect_count
-
-  module _ (z : not acting ≡ false) (t : ℕ) (none : first (at + t) (is_unmet file k rows) ≡ at + t) (l : t < m) (b : Bool)
-      (hb : b ≡ pair_at file rows (s + 1) (pair (action (task_of file) a).effects t)) where
-    effect_is_lem : is_unmet file k rows (at + t) ≡ not b
-    effect_is_lem =
-        let there : t < count5 = omega (arith, effect_count) in
-        false_effect file rows k s a at t c.step c.item c.reached.is there
-        ∙ ap₂ (λ a b. a && not b) (sym g ∙ not_false acting z) (ap (λ u. pair_at file rows u (pair (action (task_of file) a).effects t)) (sym (add-one s)) ∙ sym hb)
-
-    pub effect_fails : not b ≡ true → at + t ≡ first (at + count5) (is_unmet file k rows)
-    effect_fails f = pairs_found (is_unmet file k rows) at t none count5 (omega (arith, effect_count)) (effect_is_lem ∙ f)
-
-    pub effect_again : not b ≡ false → first (at + (t + 1)) (is_unmet file k rows) ≡ at + (t + 1)
-    effect_again f = pairs_more (is_unmet file k rows) at t none (effect_is_lem ∙ f)
+    pub pair_again : not b ≡ false → first (at + (t + 1)) (is_unmet file k rows) ≡ at + (t + 1)
+    pair_again f = pairs_more (is_unmet file k rows) at t none (pair_is ∙ f)
 
 -- ---- one pair of an action
 
-module _ (file index : List ℕ) (ix : Indexed file index) (a i o x v : ℕ) (h : a < A (task_of file)) (e : o ≡ a) where
-  fine_action : ActionFine (task_of file) (action (task_of file) o)
-  fine_action = (accepted_well_formed file ix.accepted).actions_fine o (omega arith)
+module _ (file index : List ℕ) (rows : Rows) (k : ℕ) (list : ActionPairs) (s a at : ℕ) (c : Come file index rows k (pairs_family list) s a at) (m t x : ℕ)
+    (h : m ≡ length (pairs_of list (action (task_of file) a))) (l : t < m) (variable : x ≡ (pair (pairs_of list (action (task_of file) a)) t).variable) where
+  fine_action : ActionFine (task_of file) (action (task_of file) a)
+  fine_action = (accepted_well_formed file c.reached.indexed.accepted).actions_fine a (pair_action file index rows k s a at list c)
 
-  module _ (l : i < length (action (task_of file) a).preconditions) where
-    pub precondition_asked : i < length (action (task_of file) o).preconditions
-    precondition_asked = rw e l
+  pair_inside : Inside (task_of file) (pair (pairs_of list (action (task_of file) a)) t)
+  pair_inside = each list (omega arith)
+    where
+      each : (list : ActionPairs) → t < length (pairs_of list (action (task_of file) a)) → Inside (task_of file) (pair (pairs_of list (action (task_of file) a)) t)
+      each Preconditions l = fine_action.preconditions_fine.inside_each t l
+      each Effects l = fine_action.effects_fine.inside_each t l
 
-    pub precondition_variable : x ≡ (pair (action (task_of file) o).preconditions i).variable → x < n (task_of file)
-    precondition_variable u = omega (arith, (fine_action.preconditions_fine.inside_each i precondition_asked).variable_below)
+  pub pair_variable : x < n (task_of file)
+  pair_variable = omega (arith, pair_inside.variable_below)
 
-    pub precondition_value : x ≡ (pair (action (task_of file) o).preconditions i).variable → v ≡ (pair (action (task_of file) o).preconditions i).value → v < d (task_of file) x
-    precondition_value u w = rw (u, w) (fine_action.preconditions_fine.inside_each i precondition_asked).value_below
-
-    pub precondition_read : (rows : Rows) (s : ℕ) (b : Bool) → x ≡ (pair (action (task_of file) o).preconditions i).variable → v ≡ (pair (action (task_of file) o).preconditions i).value
-        → b ≡ holds_at false file rows s x v → b ≡ pair_at file rows s (pair (action (task_of file) a).preconditions i)
-    unfolding pair_at
-    precondition_read rows s b u w g =
-        g ∙ ap₂ (holds_at false file rows s) u w
-        ∙ ap (λ a. pair_at file rows s (pair (action (task_of file) a).preconditions i)) e
-
-  module _ (l : i < length (action (task_of file) a).effects) where
-    pub effect_asked : i < length (action (task_of file) o).effects
-    effect_asked = rw e l
-
-    pub effect_variable : x ≡ (pair (action (task_of file) o).effects i).variable → x < n (task_of file)
-    effect_variable u = omega (arith, (fine_action.effects_fine.inside_each i effect_asked).variable_below)
-
-    pub effect_value : x ≡ (pair (action (task_of file) o).effects i).variable → v ≡ (pair (action (task_of file) o).effects i).value → v < d (task_of file) x
-    effect_value u w = rw (u, w) (fine_action.effects_fine.inside_each i effect_asked).value_below
-
-    pub effect_read : (rows : Rows) (s : ℕ) (b : Bool) → x ≡ (pair (action (task_of file) o).effects i).variable → v ≡ (pair (action (task_of file) o).effects i).value
-        → b ≡ holds_at false file rows s x v → b ≡ pair_at file rows s (pair (action (task_of file) a).effects i)
-    unfolding pair_at
-    effect_read rows s b u w g =
-        g ∙ ap₂ (holds_at false file rows s) u w
-        ∙ ap (λ a. pair_at file rows s (pair (action (task_of file) a).effects i)) e
+  pub pair_value : (v : ℕ) → v ≡ (pair (pairs_of list (action (task_of file) a)) t).value → v < d (task_of file) x
+  pair_value v value = rw (variable, value) pair_inside.value_below

@@ -2,8 +2,9 @@
 -- Assumes nothing.
 use mathlib.Core.Path.{◌≡◌, refl, sym, ap, ◌∙◌}
 use mathlib.Core.Bool.{Bool}
-use mathlib.Core.List.{List}
-use Prim.Native.Nat.{ℕ, suc, ◌+◌, ◌*◌, ◌≤◌, ◌<◌}
+use mathlib.Core.List.{List, [], ◌∷◌}
+use lib.ListN.{get_or}
+use Prim.Native.Nat.{ℕ, zero, suc, ◌+◌, ◌*◌, ◌≤◌, ◌<◌}
 use native.Mathlib.Omega.{arith}
 use native.Mathlib.Nat.{suc-mul, zero-mul}
 use mir.Syntax.{w64}
@@ -19,14 +20,49 @@ use Rattle.rules.proofs.Counting.{first_le, first_before, first_at, first_is}
 use Rattle.rules.proofs.Files.{accepted_well_formed}
 use Rattle.rules.proofs.ByNumber.{clauses_before}
 use Rattle.task.specs.Index.{Indexed}
-use Rattle.checker.specs.Order.{is_unmet, steps_of, items_of, clauses_of, step_clauses, first_clause, Reached, Come, family_count}
+use Rattle.checker.specs.Order.{is_unmet, steps_of, items_of, clauses_of, step_clauses, first_clause, Reached, Come, family_count, family_number, start_values, goal_pairs, two_actions}
+use Rattle.checker.specs.declared.sizes.Family.{Family}
+use Rattle.checker.specs.declared.sizes.Family.TheVariants.{StartValues, GoalPairs, SomeValue, TwoValues, PreconditionsHold, EffectsHold, ValuesStay, TwoActions}
 use Rattle.checker.proofs.Widths.{next_family, all_families, family_end, step_few, item_few, family_few, step_within, item_within}
 
-beyond : (f m : ℕ) → m ≤ f → (f ≡ m → ⊥) → suc m ≤ f
-beyond f m h n = omega (arith, n)
+pub family_below : (g : Family) → family_number g < family_count
+family_below StartValues = omega arith
+family_below GoalPairs = omega arith
+family_below SomeValue = omega arith
+family_below TwoValues = omega arith
+family_below PreconditionsHold = omega arith
+family_below EffectsHold = omega arith
+family_below ValuesStay = omega arith
+family_below TwoActions = omega arith
 
-seven : (f : ℕ) → 7 ≤ f → f < family_count → f ≡ 7
-seven f h l = omega arith
+-- the families in their order
+abbrev pub families : List Family
+families =
+    StartValues
+    ∷ GoalPairs
+    ∷ SomeValue
+    ∷ TwoValues
+    ∷ PreconditionsHold
+    ∷ EffectsHold
+    ∷ ValuesStay
+    ∷ TwoActions
+    ∷ []
+
+family_at : (i : ℕ) (g : Family) → i < family_count → family_number (get_or families i g) ≡ i
+family_at zero g h = refl
+family_at (suc zero) g h = refl
+family_at (suc (suc zero)) g h = refl
+family_at (suc (suc (suc zero))) g h = refl
+family_at (suc (suc (suc (suc zero)))) g h = refl
+family_at (suc (suc (suc (suc (suc zero))))) g h = refl
+family_at (suc (suc (suc (suc (suc (suc zero)))))) g h = refl
+family_at (suc (suc (suc (suc (suc (suc (suc zero))))))) g h = refl
+family_at (suc (suc (suc (suc (suc (suc (suc (suc i)))))))) g h = absurd (omega arith)
+
+-- so many clauses it has
+pub width_at : (file : List ℕ) (k f : ℕ) (g : Family) (w : ℕ) → f < family_count
+    → w ≡ steps_of k (family_number (get_or families f g)) * step_clauses (task_of file) (family_number (get_or families f g)) → w ≡ steps_of k f * step_clauses (task_of file) f
+width_at file k f g w l h = rw (family_at f g l) at h
 
 -- ---- the lowest number up to a place
 
@@ -46,43 +82,36 @@ module _ (file index : List ℕ) (rows : Rows) (k : ℕ) where
   abbrev q : ℕ → Bool
   q = is_unmet file k rows
 
-  -- ---- one item, by the family's number
+  -- ---- one item, by its family
 
-  module _ (f s i at : ℕ) (c : Come file index rows k f s i at) where
-    pub come_same : (g : ℕ) → f ≡ g → Come file index rows k g s i at
-    come_same g e = rw e at c
+  module _ (g : Family) (s i at : ℕ) (c : Come file index rows k (family_number g) s i at) where
+    pub come_same : (f : ℕ) → family_number g ≡ f → Come file index rows k f s i at
+    come_same f e = rw e at c
 
-    pub come_start : f ≡ 0 → Come file index rows k 0 0 i at
+    pub come_start : g ≡ StartValues → Come file index rows k start_values 0 i at
     unfolding steps_of
     come_start e =
         let z : s ≡ 0 = let l : s < 1 = (rw e at c).step in omega arith in
         rw z at (rw e at c)
 
-    pub come_goal : f ≡ 1 → Come file index rows k 1 0 i at
+    pub come_goal : g ≡ GoalPairs → Come file index rows k goal_pairs 0 i at
     unfolding steps_of
     come_goal e =
         let z : s ≡ 0 = let l : s < 1 = (rw e at c).step in omega arith in
         rw z at (rw e at c)
 
-    module _ (n0 : f ≡ 0 → ⊥) (n1 : f ≡ 1 → ⊥) (n2 : f ≡ 2 → ⊥) (n3 : f ≡ 3 → ⊥) (n4 : f ≡ 4 → ⊥) (n5 : f ≡ 5 → ⊥) (n6 : f ≡ 6 → ⊥) where
-      last : f ≡ 7
-      last =
-          seven f
-          (beyond f 6 (beyond f 5 (beyond f 4 (beyond f 3 (beyond f 2 (beyond f 1 (beyond f 0 (omega arith) n0) n1) n2) n3) n4) n5) n6)
-          c.family
-
-      pub come_actions : Come file index rows k 7 s 0 at
-      unfolding items_of
-      come_actions =
-          let z : i ≡ 0 = let l : i < 1 = (rw last at c).item in omega arith in
-          rw z at (rw last at c)
-
-      pub answer_actions : (r : ℕ) → r ≡ first (at + clauses_of T 7 0) q → r ≡ first (at + clauses_of T f i) q
-      unfolding clauses_of
-      answer_actions r e = rw last e
+    pub come_actions : g ≡ TwoActions → Come file index rows k two_actions s 0 at
+    unfolding items_of
+    come_actions e =
+        let z : i ≡ 0 = let l : i < 1 = (rw e at c).item in omega arith in
+        rw z at (rw e at c)
 
   pub answer_same : (f g i at r : ℕ) → f ≡ g → r ≡ first (at + clauses_of T g i) q → r ≡ first (at + clauses_of T f i) q
   answer_same f g i at r e h = rw e h
+
+  pub answer_actions : (f i at r : ℕ) → f ≡ 7 → r ≡ first (at + clauses_of T 7 0) q → r ≡ first (at + clauses_of T f i) q
+  unfolding clauses_of
+  answer_actions f i at r e h = rw e h
 
   -- ---- the items of a step
 
@@ -167,7 +196,15 @@ module _ (file index : List ℕ) (rows : Rows) (k : ℕ) where
         let y : at ≡ start + steps_of k f * step_clauses T f = omega (arith, r.is, ap (λ s. s * step_clauses T f) same, zero-mul (step_clauses T f)) in
         sym r.none ∙ ap (λ m. first m q) y
 
-  -- ---- the families
+  -- ---- the families; the one at f has the number f
+
+  module _ (f : ℕ) (g : Family) (l : f < family_count) where
+    pub reached_at : (at : ℕ) → Reached file index rows k f 0 0 at → Reached file index rows k (family_number (get_or families f g)) 0 0 at
+    reached_at at r = rw (family_at f g l) r
+
+    pub lowest_at : (at c : ℕ) → c ≡ first (at + steps_of k (family_number (get_or families f g)) * step_clauses T (family_number (get_or families f g))) q
+        → c ≡ first (at + steps_of k f * step_clauses T f) q
+    lowest_at at c h = rw (family_at f g l) at h
 
   pub start_here : Indexed file index → k ≤ max_horizon → Reached file index rows k 0 0 0 0
   unfolding first_clause clauses_before sum_to first

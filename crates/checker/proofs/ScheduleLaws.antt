@@ -2,15 +2,15 @@
 -- Assumes nothing.
 use mathlib.Core.Path.{◌≡◌, refl, sym, ap, ap₂, ◌∙◌}
 use mathlib.Core.Bool.{false, cond}
-use mathlib.Core.List.{List, [], ◌∷◌, ◌++◌, append_assoc}
+use mathlib.Core.List.{List, [], ◌∷◌, ◌++◌, append_assoc, append-nil}
 use Prim.Native.Nat.{ℕ, suc, ◌+◌, ◌≤◌, ◌<◌}
 use native.Mathlib.Omega.{arith}
 use native.Mathlib.Numerals.{add-one}
 use borrow.Author.Tests.{lt-ltb, le-ltb}
 use mir.Syntax.{w32}
 use mir.Val.{Fits}
-use lib.ListN.{length, get_or, set, drop}
-use lib.Seq.{set_at, drop-cons}
+use lib.ListN.{length, get_or, set, take, drop, drop_of_length-le}
+use lib.Seq.{set_at, drop-cons, length-take-le}
 use Rattle.rules.specs.Counting.{first, table, for_each}
 use Rattle.rules.specs.Task.{Task, A}
 use Rattle.rules.specs.Numbering.{action_number}
@@ -82,7 +82,9 @@ module _ (file : List ℕ) (rows : Rows) where
       ∙ ap (λ e. entries s ++ e ∷ drop (suc s) lent) g
       ∙ sym (append_assoc (entries s) (entry_of (at_any_horizon file) (model_in rows) s ∷ []) (drop (suc s) lent)))
 
-  pub entries_all : (k : ℕ) (lent written : List ℕ) (s : ℕ) → s ≤ k → k ≤ s → written ≡ entries s ++ drop s lent
-      → written ≡ schedule_of (problem_of file k) (model_in rows) ++ drop k lent
+  pub entries_all : (k : ℕ) (lent written : List ℕ) (s : ℕ) → k ≤ length lent → s ≤ length (take k lent) → length (take k lent) ≤ s
+      → written ≡ entries s ++ drop s (take k lent) → written ++ drop k lent ≡ schedule_of (problem_of file k) (model_in rows) ++ drop k lent
   unfolding schedule_of entry_of true_action action_number problem_of
-  entries_all k lent written s l u h = let same : s ≡ k = omega arith in rw same at h
+  entries_all k lent written s w l u h =
+      let same : s ≡ k = omega (arith, length-take-le k lent w) in
+      ap (λ r. r ++ drop k lent) (rw (drop_of_length-le (take k lent) u, append-nil, same) at h)

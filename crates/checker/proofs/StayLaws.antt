@@ -1,4 +1,4 @@
--- Family 7, way by way: an effect, an action that gives a value, a step that has such an action, and a value that changes alone.
+-- Family 7, way by way: an action that gives a value, a step that has such an action, and a variable's values.
 -- Assumes nothing.
 use mathlib.Core.Path.{◌≡◌, refl, sym, ap, ap₂, ◌∙◌}
 use mathlib.Core.Logic.{⊎_elim}
@@ -6,22 +6,21 @@ use mathlib.Core.Bool.{Bool, true, false, not, ◌&&◌, ◌||◌}
 use mathlib.Core.List.{List, [], ◌∷◌}
 use Prim.Native.Nat.{ℕ, suc, ◌+◌, ◌-◌, ◌≤◌, ◌<◌}
 use native.Mathlib.Omega.{arith}
-use native.Mathlib.Numerals.{add-one}
-use borrow.Author.Tests.{lt-ltb, le-ltb, ltb-true, eq-eqb, ne_eqb}
+use borrow.Author.Tests.{lt-ltb, le-ltb, ltb-true}
 use mir.Syntax.{w64}
 use mir.Val.{Fits}
 use lib.Dec.{eqb}
 use lib.ListN.{length}
 use Rattle.rules.specs.Counting.{first, any, when}
 use Rattle.rules.specs.Limits.{max_horizon, max_actions}
-use Rattle.rules.specs.Task.{Task, n, d, A, pair, action}
+use Rattle.rules.specs.Task.{Task, n, d, A, action}
 use Rattle.rules.specs.Numbering.{action_number}
 use Rattle.rules.specs.Families.{plus, supporters}
 use Rattle.rules.specs.Rows.{Rows}
 use Rattle.rules.specs.Truth.{literal_true, model_in}
 use Rattle.rules.specs.File.{task_of}
 use Rattle.rules.specs.Calls.{problem_of}
-use Rattle.rules.proofs.Bools.{either, clash, and_both, same_truth, not_true, not_false, below_or}
+use Rattle.rules.proofs.Bools.{either, clash, and_both, same_truth, below_or}
 use Rattle.rules.proofs.Counting.{first_le, first_before, first_at, first_is, first_none, any_at, any_where, any_for_each, one_of}
 use Rattle.rules.proofs.Files.{accepted_well_formed}
 use Rattle.task.specs.Index.{Indexed}
@@ -40,23 +39,6 @@ bools false = refl
 nothing : (a : Bool) → false ≡ (a && false)
 nothing true = refl
 nothing false = refl
-
--- ---- an effect
-
-module _ (file : List ℕ) (a x v i o : ℕ) (e : o ≡ a) where
-  pub effect_other : (y y' : ℕ) → y ≡ y' → y' ≡ (pair (action (task_of file) o).effects i).variable → (y ≡ x → ⊥) → false ≡ effect_is file a x v i
-  unfolding effect_is
-  effect_other y y' w h g =
-      let z : (pair (action (task_of file) a).effects i).variable ≡ y' = ap (λ a. (pair (action (task_of file) a).effects i).variable) (sym e) ∙ sym h in
-      sym (ap (λ b. b && eqb (pair (action (task_of file) a).effects i).value v) (ne_eqb _ x (λ u. g (w ∙ sym z ∙ u))))
-
-  pub effect_same : (y y' z z' p : ℕ) → y ≡ y' → y' ≡ (pair (action (task_of file) o).effects i).variable → y ≡ x → p ≡ a → z ≡ z'
-      → z' ≡ (pair (action (task_of file) p).effects i).value → eqb z v ≡ effect_is file a x v i
-  unfolding effect_is
-  effect_same y y' z z' p q h g f r k =
-      let w : (pair (action (task_of file) a).effects i).variable ≡ x = ap (λ a. (pair (action (task_of file) a).effects i).variable) (sym e) ∙ sym h ∙ sym q ∙ g in
-      let u : z ≡ (pair (action (task_of file) a).effects i).value = r ∙ k ∙ ap (λ a. (pair (action (task_of file) a).effects i).value) f in
-      sym (ap (λ b. b && eqb (pair (action (task_of file) a).effects i).value v) (eq-eqb _ x w) ∙ ap (λ t. eqb t v) (sym u))
 
 -- ---- an action that gives a value
 
@@ -196,27 +178,6 @@ module _ (file : List ℕ) (rows : Rows) (s x v : ℕ) where
       let l : first (A T) supports < A T = ltb-true (first (A T) supports) (A T) t in
       any_for_each (literal_true (model_in rows)) (A T) _ (first (A T) supports) l
       (supporter k (first (A T) supports) (gives_at file x v (first (A T) supports)) ∙ first_at (A T) supports l))
-
--- ---- a value that changes alone
-
-module _ (file : List ℕ) (rows : Rows) (s x v : ℕ) (b : Bool) (e : b ≡ holds_at true file rows (s + 1) x v) where
-  later : holds_at true file rows (suc s) x v ≡ b
-  later = ap (λ t. holds_at true file rows t x v) (sym (add-one s)) ∙ sym e
-
-  pub not_later : not b ≡ true → false ≡ changes_alone file rows s x v
-  unfolding changes_alone
-  not_later z = sym (ap (λ a. a && (not (holds_at false file rows s x v) && not (supported_at file rows s x v))) (later ∙ not_true b z))
-
-  module _ (z : not b ≡ false) (c : Bool) (f : c ≡ holds_at false file rows s x v) where
-    from_here : changes_alone file rows s x v ≡ (not c && not (supported_at file rows s x v))
-    unfolding changes_alone
-    from_here = ap₂ (λ a c. a && (not c && not (supported_at file rows s x v))) (later ∙ not_false b z) (sym f)
-
-    pub already : c ≡ true → false ≡ changes_alone file rows s x v
-    already t = sym (from_here ∙ ap (λ c. not c && not (supported_at file rows s x v)) t)
-
-    pub changed : (g : Bool) → c ≡ false → g ≡ supported_at file rows s x v → not g ≡ changes_alone file rows s x v
-    changed g t h = ap not h ∙ sym (from_here ∙ ap (λ c. not c && not (supported_at file rows s x v)) t)
 
 -- ---- a variable's values
 

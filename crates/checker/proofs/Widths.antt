@@ -1,6 +1,7 @@
 -- How many steps, items and clauses a family has, way by way, and that all clauses together are few.
 -- Assumes nothing.
 use mathlib.Core.Path.{◌≡◌, refl, ap, ◌∙◌}
+use mathlib.Core.Logic.{⊎_elim, ◌⊎◌}
 use mathlib.Core.List.{List}
 use Prim.Native.Nat.{ℕ, zero, suc, ◌+◌, ◌*◌, ◌≤◌, ◌<◌}
 use native.Mathlib.Omega.{arith}
@@ -20,35 +21,11 @@ use Rattle.rules.proofs.Bounds.{C-bound}
 use Rattle.rules.proofs.Files.{accepted_well_formed}
 use Rattle.rules.proofs.ByNumber.{clauses_before}
 use Rattle.task.specs.Index.{Indexed, value_pairs_before, preconditions_before, effects_before}
-use Rattle.checker.specs.Order.{steps_of, items_of, clauses_of, step_clauses, first_clause, family_count}
+use Rattle.checker.specs.Order.{steps_of, items_of, clauses_of, step_clauses, first_clause, family_count, family_number}
+use Rattle.checker.specs.declared.sizes.Family.{Family}
+use Rattle.checker.specs.declared.sizes.Family.TheVariants.{StartValues, GoalPairs, SomeValue, TwoValues, PreconditionsHold, EffectsHold, ValuesStay, TwoActions}
 
 -- ---- steps
-
-pub steps_one : (k f : ℕ) → f < 2 → 1 ≡ steps_of k f
-unfolding steps_of
-steps_one k zero h = refl
-steps_one k (suc zero) h = refl
-steps_one k (suc (suc f)) h = absurd (omega arith)
-
-pub steps_states : (k f : ℕ) → 2 ≤ f → f < 4 → k + 1 ≡ steps_of k f
-unfolding steps_of
-steps_states k zero h l = absurd (omega arith)
-steps_states k (suc zero) h l = absurd (omega arith)
-steps_states k (suc (suc zero)) h l = omega arith
-steps_states k (suc (suc (suc zero))) h l = omega arith
-steps_states k (suc (suc (suc (suc f)))) h l = absurd (omega arith)
-
-pub steps_moves : (k f : ℕ) → 4 ≤ f → f < family_count → k ≡ steps_of k f
-unfolding steps_of
-steps_moves k zero h l = absurd (omega arith)
-steps_moves k (suc zero) h l = absurd (omega arith)
-steps_moves k (suc (suc zero)) h l = absurd (omega arith)
-steps_moves k (suc (suc (suc zero))) h l = absurd (omega arith)
-steps_moves k (suc (suc (suc (suc zero)))) h l = refl
-steps_moves k (suc (suc (suc (suc (suc zero))))) h l = refl
-steps_moves k (suc (suc (suc (suc (suc (suc zero)))))) h l = refl
-steps_moves k (suc (suc (suc (suc (suc (suc (suc zero))))))) h l = refl
-steps_moves k (suc (suc (suc (suc (suc (suc (suc (suc f)))))))) h l = absurd (omega arith)
 
 pub steps_most : (k f : ℕ) → steps_of k f ≤ suc k
 unfolding steps_of
@@ -62,133 +39,42 @@ steps_most k (suc (suc (suc (suc (suc (suc zero)))))) = omega arith
 steps_most k (suc (suc (suc (suc (suc (suc (suc zero))))))) = omega arith
 steps_most k (suc (suc (suc (suc (suc (suc (suc (suc f)))))))) = omega arith
 
--- ---- items and clauses, by the family's number
+-- ---- a step's clauses, family by family
 
 module _ (T : Task) where
-  pub items_goals : (f r : ℕ) → f ≡ 1 → r ≡ length T.goal → r ≡ items_of T f
+  pub item_variable : (g : Family) (i : ℕ) → g ≡ TwoValues → i < items_of T (family_number g) → i < n T
   unfolding items_of
-  items_goals f r e h = rw e h
+  item_variable g i e h = rw e at h
 
-  pub items_variables : (f r : ℕ) → (f ≡ 1 → ⊥) → f < 4 → r ≡ n T → r ≡ items_of T f
-  unfolding items_of
-  items_variables zero r g l e = e
-  items_variables (suc zero) r g l e = absurd (g refl)
-  items_variables (suc (suc zero)) r g l e = e
-  items_variables (suc (suc (suc zero))) r g l e = e
-  items_variables (suc (suc (suc (suc f)))) r g l e = absurd (omega arith)
-
-  pub items_actions : (f r : ℕ) → 4 ≤ f → f < 6 → r ≡ A T → r ≡ items_of T f
-  unfolding items_of
-  items_actions zero r g l e = absurd (omega arith)
-  items_actions (suc zero) r g l e = absurd (omega arith)
-  items_actions (suc (suc zero)) r g l e = absurd (omega arith)
-  items_actions (suc (suc (suc zero))) r g l e = absurd (omega arith)
-  items_actions (suc (suc (suc (suc zero)))) r g l e = e
-  items_actions (suc (suc (suc (suc (suc zero))))) r g l e = e
-  items_actions (suc (suc (suc (suc (suc (suc f)))))) r g l e = absurd (omega arith)
-
-  pub items_stay : (f r : ℕ) → f ≡ 6 → r ≡ n T → r ≡ items_of T f
-  unfolding items_of
-  items_stay f r e h = rw e h
-
-  pub items_one : (f : ℕ) → 6 ≤ f → (f ≡ 6 → ⊥) → f < family_count → 1 ≡ items_of T f
-  unfolding items_of
-  items_one zero h g l = absurd (omega arith)
-  items_one (suc zero) h g l = absurd (omega arith)
-  items_one (suc (suc zero)) h g l = absurd (omega arith)
-  items_one (suc (suc (suc zero))) h g l = absurd (omega arith)
-  items_one (suc (suc (suc (suc zero)))) h g l = absurd (omega arith)
-  items_one (suc (suc (suc (suc (suc zero))))) h g l = absurd (omega arith)
-  items_one (suc (suc (suc (suc (suc (suc zero)))))) h g l = absurd (g refl)
-  items_one (suc (suc (suc (suc (suc (suc (suc zero))))))) h g l = refl
-  items_one (suc (suc (suc (suc (suc (suc (suc (suc f)))))))) h g l = absurd (omega arith)
-
-  -- what an item is
-  pub item_variable : (f i : ℕ) → (f ≡ 3) → i < items_of T f → i < n T
-  unfolding items_of
-  item_variable f i e h = rw e at h
-
-  pub item_stay : (f i : ℕ) → (f ≡ 6) → i < items_of T f → i < n T
-  unfolding items_of
-  item_stay f i e h = rw e at h
-
-  pub item_precondition : (f i p : ℕ) → f ≡ 4 → p ≡ i → i < items_of T f → p < A T
-  unfolding items_of
-  item_precondition f i p e g h = let l : i < A T = rw e at h in omega arith
-
-  pub item_effect : (f i p : ℕ) → f ≡ 5 → p ≡ i → i < items_of T f → p < A T
-  unfolding items_of
-  item_effect f i p e g h = let l : i < A T = rw e at h in omega arith
-
-  pub clauses_one : (f i : ℕ) → f < 3 → 1 ≡ clauses_of T f i
-  unfolding clauses_of
-  clauses_one zero i h = refl
-  clauses_one (suc zero) i h = refl
-  clauses_one (suc (suc zero)) i h = refl
-  clauses_one (suc (suc (suc f))) i h = absurd (omega arith)
-
-  pub clauses_values : (f i v r : ℕ) → f ≡ 3 → v ≡ d T i → r ≡ pairs_below v → r ≡ clauses_of T f i
-  unfolding clauses_of
-  clauses_values f i v r e g h = rw e (h ∙ ap pairs_below g)
-
-  pub clauses_preconditions : (f i p r : ℕ) → f ≡ 4 → p ≡ i → r ≡ length (action T p).preconditions → r ≡ clauses_of T f i
-  unfolding clauses_of
-  clauses_preconditions f i p r e g h = rw e (h ∙ ap (λ a. length (action T a).preconditions) g)
-
-  pub clauses_effects : (f i p r : ℕ) → f ≡ 5 → p ≡ i → r ≡ length (action T p).effects → r ≡ clauses_of T f i
-  unfolding clauses_of
-  clauses_effects f i p r e g h = rw e (h ∙ ap (λ a. length (action T a).effects) g)
-
-  pub clauses_stay : (f i r : ℕ) → f ≡ 6 → r ≡ d T i → r ≡ clauses_of T f i
-  unfolding clauses_of
-  clauses_stay f i r e h = rw e h
-
-  last_family : (f : ℕ) → 3 ≤ f → (f ≡ 3 → ⊥) → (f ≡ 4 → ⊥) → (f ≡ 5 → ⊥) → (f ≡ 6 → ⊥) → f < family_count → f ≡ 7
-  last_family f h a b c d l =
-      let past3 : 4 ≤ f = omega (arith, a) in
-      let past4 : 5 ≤ f = omega (arith, b) in
-      let past5 : 6 ≤ f = omega (arith, c) in
-      omega (arith, d)
-
-  pub clauses_actions : (f i m r : ℕ) → 3 ≤ f → (f ≡ 3 → ⊥) → (f ≡ 4 → ⊥) → (f ≡ 5 → ⊥) → (f ≡ 6 → ⊥) → f < family_count → m ≡ A T → r ≡ pairs_below m
-      → r ≡ clauses_of T f i
-  unfolding clauses_of
-  clauses_actions f i m r h a b c d l g e = rw (last_family f h a b c d l) (e ∙ ap pairs_below g)
-
-  -- ---- a step's clauses
-
-  pub step_goals : (f r : ℕ) → f ≡ 1 → r ≡ length T.goal → r ≡ step_clauses T f
+  pub step_variables : (g : Family) (r : ℕ) → (g ≡ StartValues) ⊎ (g ≡ SomeValue) → r ≡ n T → r ≡ step_clauses T (family_number g)
   unfolding step_clauses items_of clauses_of
-  step_goals f r e h = rw e (omega (arith, sum_to-const (length T.goal) 1))
+  step_variables g r e h = ⊎_elim (λ e. rw e (omega (arith, sum_to-const (n T) 1))) (λ e. rw e (omega (arith, sum_to-const (n T) 1))) e
 
-  pub step_variables : (f r : ℕ) → (f ≡ 1 → ⊥) → f < 3 → r ≡ n T → r ≡ step_clauses T f
-  unfolding step_clauses items_of clauses_of
-  step_variables zero r g l h = omega (arith, sum_to-const (n T) 1)
-  step_variables (suc zero) r g l h = absurd (g refl)
-  step_variables (suc (suc zero)) r g l h = omega (arith, sum_to-const (n T) 1)
-  step_variables (suc (suc (suc f))) r g l h = absurd (omega arith)
+  module _ (g : Family) (r : ℕ) where
+    pub step_goals : g ≡ GoalPairs → r ≡ length T.goal → r ≡ step_clauses T (family_number g)
+    unfolding step_clauses items_of clauses_of
+    step_goals e h = rw e (omega (arith, sum_to-const (length T.goal) 1))
 
-  pub step_values : (f x r : ℕ) → f ≡ 3 → x ≡ n T → r ≡ value_pairs_before T x → r ≡ step_clauses T f
-  unfolding step_clauses items_of clauses_of value_pairs_before
-  step_values f x r e g h = rw e (h ∙ ap (λ x. sum_to x (λ y. pairs_below (d T y))) g)
+    pub step_values : (x : ℕ) → g ≡ TwoValues → x ≡ n T → r ≡ value_pairs_before T x → r ≡ step_clauses T (family_number g)
+    unfolding step_clauses items_of clauses_of value_pairs_before
+    step_values x e i h = rw e (h ∙ ap (λ x. sum_to x (λ y. pairs_below (d T y))) i)
 
-  pub step_preconditions : (f a r : ℕ) → f ≡ 4 → a ≡ A T → r ≡ preconditions_before T a → r ≡ step_clauses T f
-  unfolding step_clauses items_of clauses_of preconditions_before
-  step_preconditions f a r e g h = rw e (h ∙ ap (λ a. sum_to a (λ b. length (action T b).preconditions)) g)
+    pub step_preconditions : (a : ℕ) → g ≡ PreconditionsHold → a ≡ A T → r ≡ preconditions_before T a → r ≡ step_clauses T (family_number g)
+    unfolding step_clauses items_of clauses_of preconditions_before
+    step_preconditions a e i h = rw e (h ∙ ap (λ a. sum_to a (λ b. length (action T b).preconditions)) i)
 
-  pub step_effects : (f a r : ℕ) → f ≡ 5 → a ≡ A T → r ≡ effects_before T a → r ≡ step_clauses T f
-  unfolding step_clauses items_of clauses_of effects_before
-  step_effects f a r e g h = rw e (h ∙ ap (λ a. sum_to a (λ b. length (action T b).effects)) g)
+    pub step_effects : (a : ℕ) → g ≡ EffectsHold → a ≡ A T → r ≡ effects_before T a → r ≡ step_clauses T (family_number g)
+    unfolding step_clauses items_of clauses_of effects_before
+    step_effects a e i h = rw e (h ∙ ap (λ a. sum_to a (λ b. length (action T b).effects)) i)
 
-  pub step_stay : (f r : ℕ) → f ≡ 6 → r ≡ S T → r ≡ step_clauses T f
-  unfolding step_clauses items_of clauses_of
-  step_stay f r e h = rw e h
+    pub step_stay : g ≡ ValuesStay → r ≡ S T → r ≡ step_clauses T (family_number g)
+    unfolding step_clauses items_of clauses_of
+    step_stay e h = rw e h
 
-  pub step_actions : (f m r : ℕ) → 3 ≤ f → (f ≡ 3 → ⊥) → (f ≡ 4 → ⊥) → (f ≡ 5 → ⊥) → (f ≡ 6 → ⊥) → f < family_count → m ≡ A T → r ≡ pairs_below m
-      → r ≡ step_clauses T f
-  unfolding step_clauses items_of clauses_of sum_to
-  step_actions f m r h a b c d l g e =
-      let z : pairs_below (A T) ≡ 0 + pairs_below (A T) = omega arith in rw (last_family f h a b c d l) (e ∙ ap pairs_below g ∙ z)
+    pub step_actions : (m : ℕ) → g ≡ TwoActions → m ≡ A T → r ≡ pairs_below m → r ≡ step_clauses T (family_number g)
+    unfolding step_clauses items_of clauses_of sum_to
+    step_actions m e i h =
+        let z : pairs_below (A T) ≡ 0 + pairs_below (A T) = omega arith in rw e (h ∙ ap pairs_below i ∙ z)
 
   -- ---- a family's clauses, and all of them
 

@@ -5,7 +5,7 @@
 use Rattle.std.specs.Prelude.{ℕ, suc, ◌+◌, ◌*◌, ◌≤◌, ◌<◌, ◌≡◌, Bool, false, not, ◌&&◌, List, [], ◌∷◌, length, get_or}
 use Rattle.rules.specs.Counting.{sum_to, first}
 use Rattle.rules.specs.Limits.{max_horizon}
-use Rattle.rules.specs.Task.{Pair, Task, n, d, A, action}
+use Rattle.rules.specs.Task.{Pair, Action, Task, n, d, A, action}
 use Rattle.rules.specs.Numbering.{value_number, action_number}
 use Rattle.rules.specs.Families.{clause}
 use Rattle.rules.specs.Counts.{pairs_below}
@@ -18,6 +18,10 @@ use Rattle.rules.proofs.Pairs.{PairAt}
 use Rattle.task.specs.Index.{Indexed}
 use Rattle.task.specs.Numbers.{at_any_horizon}
 use Rattle.rows.specs.Bits.{counts_true}
+use Rattle.checker.specs.declared.action_pairs.ActionPairs.{ActionPairs}
+use Rattle.checker.specs.declared.action_pairs.ActionPairs.TheVariants.{Preconditions, Effects}
+use Rattle.checker.specs.declared.sizes.Family.{Family}
+use Rattle.checker.specs.declared.sizes.Family.TheVariants.{StartValues, GoalPairs, SomeValue, TwoValues, PreconditionsHold, EffectsHold, ValuesStay, TwoActions}
 
 -- ---- the bits
 
@@ -65,6 +69,29 @@ values_stay = 6
 
 abbrev pub two_actions : ℕ
 two_actions = 7
+
+abbrev pub family_number : Family → ℕ
+family_number StartValues = start_values
+family_number GoalPairs = goal_pairs
+family_number SomeValue = some_value
+family_number TwoValues = two_values
+family_number PreconditionsHold = preconditions_hold
+family_number EffectsHold = effects_hold
+family_number ValuesStay = values_stay
+family_number TwoActions = two_actions
+
+-- the two lists of pairs that an action has, the family of each, and at which step its pairs are named to hold
+abbrev pub pairs_of : ActionPairs → Action → List Pair
+pairs_of Preconditions a = a.preconditions
+pairs_of Effects a = a.effects
+
+abbrev pub pairs_family : ActionPairs → ℕ
+pairs_family Preconditions = preconditions_hold
+pairs_family Effects = effects_hold
+
+abbrev pub told_at : ActionPairs → ℕ → ℕ
+told_at Preconditions s = s
+told_at Effects s = suc s
 
 -- how many steps a family speaks of
 unfoldable pub steps_of : (k f : ℕ) → ℕ

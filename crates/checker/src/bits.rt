@@ -20,6 +20,7 @@ pub const UNNAMED_IN_POSITIVE: bool = false;
 pub const UNNAMED_IN_NEGATIVE: bool = true;
 
 // A variable counts as having a value at a step.
+#[tactic(auto, unfolding(crate::specs::Order::holds_at))]
 pub fn pair_holds(
     file: &[u8],
     index: &[u16],
@@ -54,6 +55,7 @@ pub fn value_holds(
 }
 
 // An action counts as true at a step.
+#[tactic(auto, unfolding(crate::specs::Order::acts_at))]
 pub fn acts(
     file: &[u8],
     index: &[u16],

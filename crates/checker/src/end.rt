@@ -49,6 +49,7 @@ fn model_verdict(
 }
 
 // There is room for the rows and the entries.
+#[tactic(auto, unfolding(rules::specs::Lines::rows_fit))]
 fn room_fits(
     file: &[u8],
     index: &[u16],
@@ -61,13 +62,7 @@ fn room_fits(
     ensures { result ≡ (rows_fit (N (problem_of file.now horizon)) (lent given.now truth.now) && leb horizon room) }
 {
     let words = words_for(count_variables(file, index, horizon));
-    if given.len() < words {
-        return false;
-    }
-    if truth.len() < words {
-        return false;
-    }
-    horizon <= room
+    words <= given.len() && words <= truth.len() && horizon <= room
 }
 
 // All refusals that follow an accepted file and horizon, in their order.

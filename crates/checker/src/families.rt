@@ -1,24 +1,19 @@
 // The lowest unmet clause of one item, family by family: where none is unmet, the number of the clause behind the item's last.
-ghost use Rattle.std.specs.Prelude.{◌≡◌, ◌+◌, ◌<◌, ◌≤◌, length};
-ghost use Rattle.rules.specs.Limits.{max_horizon};
-ghost use Rattle.rules.specs.Task.{A as actionCount, pair, action};
-ghost use Rattle.task.specs.Index.{Indexed};
+ghost use Rattle.std.specs.Prelude.{◌≡◌, ◌+◌};
 ghost use Rattle.rules.specs.Counting.{first};
 ghost use Rattle.rules.specs.File.{task_of};
 ghost use Rattle.rows.specs.Lent.{lent};
-ghost use Rattle.checker.specs.Order.{pair_at, is_unmet, clauses_of, Come, start_values, goal_pairs, some_value, two_values, preconditions_hold, effects_hold, two_actions};
+ghost use Rattle.checker.specs.Order.{is_unmet, clauses_of, Come, pairs_family, start_values, goal_pairs, some_value, two_values, preconditions_hold, effects_hold, two_actions};
 
+use crate::action_pairs::{ActionPairs, nth_pair, pair_count, told_at};
 use crate::bits::{
     UNNAMED_IN_NEGATIVE, UNNAMED_IN_POSITIVE, acts, first_action, first_value, pair_holds,
     value_holds,
 };
 use crate::first_two::first_pair;
 use rows::first_set;
-use task::asked::{
-    effect, effect_count, goal_pair, precondition, precondition_count, size, start_value,
-};
+use task::asked::{goal_pair, size, start_value};
 use task::index::actions;
-use task::numbering::nth_action;
 
 // A variable is named to have its start value at the first step.
 pub fn start_clause(
@@ -108,28 +103,33 @@ pub fn two_values_clauses(
     at + first_pair(given, truth, from, size(file, x))
 }
 
-// Pair i of an action's preconditions is named to hold at a step.
-fn precondition_holds(
+// The pairs of a list of an action that is not named false at a step are named to hold.
+fn pair_clauses(
     file: &[u8],
     index: &[u16],
+    horizon: usize,
     given: &[u64],
     truth: &[u64],
+    list: ActionPairs,
     step: usize,
     a: usize,
-    i: usize,
-) -> bool
-    requires { Indexed file.now index.now × (step ≤ max_horizon) × (a < actionCount (task_of file.now)) × (i < length (action (task_of file.now) a).preconditions) }
-    ensures { result ≡ pair_at file.now (lent given.now truth.now) step (pair (action (task_of file.now) a).preconditions i) }
+    at: usize,
+) -> usize
+    requires { Come file.now index.now (lent given.now truth.now) horizon (pairs_family list) step a at }
+    ensures { result ≡ first (at + clauses_of (task_of file.now) (pairs_family list) a) (is_unmet file.now horizon (lent given.now truth.now)) }
 {
-    pair_holds(
-        file,
-        index,
-        given,
-        truth,
-        UNNAMED_IN_POSITIVE,
-        step,
-        precondition(file, index, nth_action(a), i),
-    )
+    let count = pair_count(file, index, list, a);
+    if !acts(file, index, given, truth, UNNAMED_IN_NEGATIVE, step, a) {
+        return at + count;
+    }
+    let told = told_at(list, step);
+    for i in 0..count {
+        let pair = nth_pair(file, index, list, a, i);
+        if !pair_holds(file, index, given, truth, UNNAMED_IN_POSITIVE, told, pair) {
+            return at + i;
+        }
+    }
+    at + count
 }
 
 // The preconditions of an action that is not named false at a step are named to hold there.
@@ -146,42 +146,8 @@ pub fn precondition_clauses(
     requires { Come file.now index.now (lent given.now truth.now) horizon preconditions_hold step a at }
     ensures { result ≡ first (at + clauses_of (task_of file.now) preconditions_hold a) (is_unmet file.now horizon (lent given.now truth.now)) }
 {
-    let count = precondition_count(file, index, nth_action(a));
-    if !acts(file, index, given, truth, UNNAMED_IN_NEGATIVE, step, a) {
-        return at + count;
-    }
-    let mut i = 0;
-    while i < count {
-        if !precondition_holds(file, index, given, truth, step, a, i) {
-            return at + i;
-        }
-        i += 1;
-    }
-    at + count
-}
-
-// Pair i of an action's effects is named to hold at a step.
-fn effect_holds(
-    file: &[u8],
-    index: &[u16],
-    given: &[u64],
-    truth: &[u64],
-    step: usize,
-    a: usize,
-    i: usize,
-) -> bool
-    requires { Indexed file.now index.now × (step ≤ max_horizon) × (a < actionCount (task_of file.now)) × (i < length (action (task_of file.now) a).effects) }
-    ensures { result ≡ pair_at file.now (lent given.now truth.now) step (pair (action (task_of file.now) a).effects i) }
-{
-    pair_holds(
-        file,
-        index,
-        given,
-        truth,
-        UNNAMED_IN_POSITIVE,
-        step,
-        effect(file, index, nth_action(a), i),
-    )
+    let list = ActionPairs::Preconditions;
+    pair_clauses(file, index, horizon, given, truth, list, step, a, at)
 }
 
 // Its effects are named to hold at the next.
@@ -198,18 +164,8 @@ pub fn effect_clauses(
     requires { Come file.now index.now (lent given.now truth.now) horizon effects_hold step a at }
     ensures { result ≡ first (at + clauses_of (task_of file.now) effects_hold a) (is_unmet file.now horizon (lent given.now truth.now)) }
 {
-    let count = effect_count(file, index, nth_action(a));
-    if !acts(file, index, given, truth, UNNAMED_IN_NEGATIVE, step, a) {
-        return at + count;
-    }
-    let mut i = 0;
-    while i < count {
-        if !effect_holds(file, index, given, truth, step + 1, a, i) {
-            return at + i;
-        }
-        i += 1;
-    }
-    at + count
+    let list = ActionPairs::Effects;
+    pair_clauses(file, index, horizon, given, truth, list, step, a, at)
 }
 
 // Of every two actions at a step one is named false.

@@ -42,9 +42,7 @@ pub fn write_schedule(
     requires { Indexed file.now index.now × (horizon ≤ max_horizon) × (horizon ≤ length entries.old) }
     ensures { entries.new ≡ schedule_of (problem_of file.now horizon) (model_in (lent given.now truth.now)) ++ drop horizon entries.old }
 {
-    let mut step = 0;
-    while step < horizon {
-        entries[step] = entry_at(file, index, given, truth, step);
-        step += 1;
+    for (step, entry) in entries[..horizon].iter_mut().enumerate() {
+        *entry = entry_at(file, index, given, truth, step);
     }
 }

@@ -8,16 +8,13 @@ ghost use Rattle.rules.specs.Families.{C};
 ghost use Rattle.rules.specs.Calls.{problem_of};
 ghost use Rattle.task.specs.Index.{Indexed};
 ghost use Rattle.rows.specs.Lent.{lent};
-ghost use Rattle.checker.specs.Order.{is_unmet, steps_of, clauses_of, step_clauses, Reached, Come, family_count};
+ghost use Rattle.checker.specs.Order.{is_unmet, steps_of, clauses_of, step_clauses, Reached, Come, family_number};
 
 use crate::families::{
     effect_clauses, goal_clause, precondition_clauses, some_value_clause, start_clause,
     two_actions_clauses, two_values_clauses,
 };
-use crate::sizes::{
-    EFFECTS_HOLD, FAMILY_COUNT, GOAL_PAIRS, PRECONDITIONS_HOLD, SOME_VALUE, START_VALUES,
-    TWO_VALUES, VALUES_STAY, clauses_of, items_of, step_clauses, steps_of,
-};
+use crate::sizes::{FAMILIES, Family, clauses_of, items_of, step_clauses, steps_of};
 use crate::stays::stay_clauses;
 
 // The lowest unmet clause up to the end of an item.
@@ -27,36 +24,26 @@ fn in_item(
     horizon: usize,
     given: &[u64],
     truth: &[u64],
-    family: usize,
+    family: Family,
     step: usize,
     i: usize,
     at: usize,
 ) -> usize
-    requires { Come file.now index.now (lent given.now truth.now) horizon family step i at }
-    ensures { result ≡ first (at + clauses_of (task_of file.now) family i) (is_unmet file.now horizon (lent given.now truth.now)) }
+    requires { Come file.now index.now (lent given.now truth.now) horizon (family_number family) step i at }
+    ensures { result ≡ first (at + clauses_of (task_of file.now) (family_number family) i) (is_unmet file.now horizon (lent given.now truth.now)) }
 {
-    if family == START_VALUES {
-        return start_clause(file, index, horizon, given, truth, i, at);
+    match family {
+        Family::StartValues => start_clause(file, index, horizon, given, truth, i, at),
+        Family::GoalPairs => goal_clause(file, index, horizon, given, truth, i, at),
+        Family::SomeValue => some_value_clause(file, index, horizon, given, truth, step, i, at),
+        Family::TwoValues => two_values_clauses(file, index, horizon, given, truth, step, i, at),
+        Family::PreconditionsHold => {
+            precondition_clauses(file, index, horizon, given, truth, step, i, at)
+        }
+        Family::EffectsHold => effect_clauses(file, index, horizon, given, truth, step, i, at),
+        Family::ValuesStay => stay_clauses(file, index, horizon, given, truth, step, i, at),
+        Family::TwoActions => two_actions_clauses(file, index, horizon, given, truth, step, at),
     }
-    if family == GOAL_PAIRS {
-        return goal_clause(file, index, horizon, given, truth, i, at);
-    }
-    if family == SOME_VALUE {
-        return some_value_clause(file, index, horizon, given, truth, step, i, at);
-    }
-    if family == TWO_VALUES {
-        return two_values_clauses(file, index, horizon, given, truth, step, i, at);
-    }
-    if family == PRECONDITIONS_HOLD {
-        return precondition_clauses(file, index, horizon, given, truth, step, i, at);
-    }
-    if family == EFFECTS_HOLD {
-        return effect_clauses(file, index, horizon, given, truth, step, i, at);
-    }
-    if family == VALUES_STAY {
-        return stay_clauses(file, index, horizon, given, truth, step, i, at);
-    }
-    two_actions_clauses(file, index, horizon, given, truth, step, at)
 }
 
 // Up to the end of a step.
@@ -66,24 +53,22 @@ fn in_step(
     horizon: usize,
     given: &[u64],
     truth: &[u64],
-    family: usize,
+    family: Family,
     step: usize,
     start: usize,
 ) -> usize
-    requires { Reached file.now index.now (lent given.now truth.now) horizon family step 0 start × (family < family_count) × (step < steps_of horizon family) }
-    ensures { result ≡ first (start + step_clauses (task_of file.now) family) (is_unmet file.now horizon (lent given.now truth.now)) }
+    requires { Reached file.now index.now (lent given.now truth.now) horizon (family_number family) step 0 start × (step < steps_of horizon (family_number family)) }
+    ensures { result ≡ first (start + step_clauses (task_of file.now) (family_number family)) (is_unmet file.now horizon (lent given.now truth.now)) }
 {
     let items = items_of(file, index, family);
-    let mut i = 0;
     let mut at = start;
-    while i < items {
+    for i in 0..items {
         let next = at + clauses_of(file, index, family, i);
         let c = in_item(file, index, horizon, given, truth, family, step, i, at);
         if c < next {
             return c;
         }
         at = next;
-        i += 1;
     }
     at
 }
@@ -95,32 +80,30 @@ fn in_family(
     horizon: usize,
     given: &[u64],
     truth: &[u64],
-    family: usize,
+    family: Family,
     start: usize,
 ) -> usize
-    requires { Reached file.now index.now (lent given.now truth.now) horizon family 0 0 start × (family < family_count) }
-    ensures { result ≡ first (start + steps_of horizon family * step_clauses (task_of file.now) family) (is_unmet file.now horizon (lent given.now truth.now)) }
+    requires { Reached file.now index.now (lent given.now truth.now) horizon (family_number family) 0 0 start }
+    ensures { result ≡ first (start + steps_of horizon (family_number family) * step_clauses (task_of file.now) (family_number family)) (is_unmet file.now horizon (lent given.now truth.now)) }
 {
     let steps = steps_of(horizon, family);
     let width = step_clauses(file, index, family);
-    let mut step = 0;
     let mut at = start;
-    while step < steps {
+    for step in 0..steps {
         let next = at + width;
         let c = in_step(file, index, horizon, given, truth, family, step, at);
         if c < next {
             return c;
         }
         at = next;
-        step += 1;
     }
     at
 }
 
 // How many clauses a family has.
-fn family_clauses(file: &[u8], index: &[u16], horizon: usize, family: usize) -> usize
-    requires { Indexed file.now index.now × (horizon ≤ max_horizon) × (family < family_count) }
-    ensures { result ≡ steps_of horizon family * step_clauses (task_of file.now) family }
+fn family_clauses(file: &[u8], index: &[u16], horizon: usize, family: Family) -> usize
+    requires { Indexed file.now index.now × (horizon ≤ max_horizon) }
+    ensures { result ≡ steps_of horizon (family_number family) * step_clauses (task_of file.now) (family_number family) }
 {
     steps_of(horizon, family) * step_clauses(file, index, family)
 }
@@ -136,16 +119,14 @@ pub fn lowest_unmet(
     requires { Indexed file.now index.now × (horizon ≤ max_horizon) }
     ensures { result ≡ first (C (problem_of file.now horizon)) (is_unmet file.now horizon (lent given.now truth.now)) }
 {
-    let mut family = 0;
     let mut at = 0;
-    while family < FAMILY_COUNT {
+    for family in FAMILIES {
         let next = at + family_clauses(file, index, horizon, family);
         let c = in_family(file, index, horizon, given, truth, family, at);
         if c < next {
             return c;
         }
         at = next;
-        family += 1;
     }
     at
 }
@@ -155,11 +136,9 @@ pub fn all_clauses(file: &[u8], index: &[u16], horizon: usize) -> usize
     requires { Indexed file.now index.now × (horizon ≤ max_horizon) }
     ensures { result ≡ C (problem_of file.now horizon) }
 {
-    let mut family = 0;
     let mut count = 0;
-    while family < FAMILY_COUNT {
+    for family in FAMILIES {
         count += family_clauses(file, index, horizon, family);
-        family += 1;
     }
     count
 }

@@ -9,21 +9,21 @@ ghost use Rattle.rows.specs.Lent.{lent};
 ghost use Rattle.checker.specs.Order.{is_unmet, clauses_of, Come, values_stay};
 ghost use Rattle.checker.specs.Staying.{effect_is, gives_at, supported_at, changes_alone};
 
+use crate::action_pairs::{ActionPairs, nth_pair, pair_count};
 use crate::bits::{UNNAMED_IN_NEGATIVE, UNNAMED_IN_POSITIVE, first_action, value_holds};
 use rows::first_set;
-use task::asked::{effect, effect_count, size};
+use task::asked::size;
 use task::index::actions;
-use task::numbering::{nth_action, value_of, variable_of};
+use task::numbering::{value_of, variable_of};
 
 // Effect i of an action is x = v.
+#[tactic(auto, unfolding(crate::specs::Staying::effect_is))]
 fn effect_is(file: &[u8], index: &[u16], a: usize, i: usize, x: usize, v: usize) -> bool
     requires { Indexed file.now index.now × (a < actionCount (task_of file.now)) × (i < length (action (task_of file.now) a).effects) }
     ensures { result ≡ effect_is file.now a x v i }
 {
-    if variable_of(effect(file, index, nth_action(a), i)) == x {
-        return value_of(effect(file, index, nth_action(a), i)) == v;
-    }
-    false
+    let pair = nth_pair(file, index, ActionPairs::Effects, a, i);
+    variable_of(pair) == x && value_of(pair) == v
 }
 
 // An action has the effect x = v.
@@ -31,13 +31,11 @@ fn gives(file: &[u8], index: &[u16], a: usize, x: usize, v: usize) -> bool
     requires { Indexed file.now index.now × (a < actionCount (task_of file.now)) }
     ensures { result ≡ gives_at file.now x v a }
 {
-    let count = effect_count(file, index, nth_action(a));
-    let mut i = 0;
-    while i < count {
+    let count = pair_count(file, index, ActionPairs::Effects, a);
+    for i in 0..count {
         if effect_is(file, index, a, i, x, v) {
             return true;
         }
-        i += 1;
     }
     false
 }
@@ -57,6 +55,7 @@ fn supported(
 {
     let count = actions(file, index);
     let mut a = 0;
+    // A `while`: the action jumps behind the one that was found to be named true.
     while a < count {
         let from = first_action(file, index, step);
         let t = a + first_set(given, truth, UNNAMED_IN_POSITIVE, from + a, count - a);
@@ -72,6 +71,7 @@ fn supported(
 }
 
 // A value is not named false at the next step and not named true at this one, and no action that is named true gives it.
+#[tactic(auto, unfolding(crate::specs::Staying::changes_alone))]
 fn changes_alone(
     file: &[u8],
     index: &[u16],
@@ -117,12 +117,10 @@ pub fn stay_clauses(
     ensures { result ≡ first (at + clauses_of (task_of file.now) values_stay x) (is_unmet file.now horizon (lent given.now truth.now)) }
 {
     let values = size(file, x);
-    let mut v = 0;
-    while v < values {
+    for v in 0..values {
         if changes_alone(file, index, given, truth, step, x, v) {
             return at + v;
         }
-        v += 1;
     }
     at + values
 }

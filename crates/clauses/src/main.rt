@@ -42,6 +42,7 @@ fn print_lines(file: &[u8], index: &[u16], horizon: usize, out: &mut [u8]) -> us
 {
     let all = count_clauses(file, index, horizon);
     let mut c = 0;
+    // A `while`: the clause jumps behind the lines that fitted.
     while c < all {
         let TextAnswer::Written { lines, bytes } = lines_indexed(file, index, horizon, c, out)
         else {

@@ -27,14 +27,12 @@ fn take_parts(state: Feed, given: &mut [u64], truth: &mut [u64], line: &mut [u8]
 {
     let mut part = io::large_buffer();
     let mut fed = state;
-    let mut left = MOST_PARTS;
-    while 0 < left {
+    for _ in 0..MOST_PARTS {
         let n = io::read_full(STDIN_FILENO, &mut part);
         if n == 0 {
             return fed;
         }
         fed = feeding::take_bytes(fed, given, truth, line, &part[..n]);
-        left -= 1;
     }
     fed
 }

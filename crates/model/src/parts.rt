@@ -28,22 +28,13 @@ pub const TEXT_ROOM: usize = 1344;
 
 const BYTE_VALUES: usize = 256;
 
-fn smaller(a: usize, b: usize) -> usize
-    ensures { result ≡ min a b }
-{
-    if a < b {
-        return a;
-    }
-    b
-}
-
 // Where the file ends in the first part.
 fn file_end(first: &[u8]) -> usize
     ensures value { result ≡ min (head_bytes + word16 first.now 1) (length first.now) }
     ensures announced { head_bytes + word16 first.now 1 ≤ first_room }
 {
     let size = number_at(first, 1) + BYTE_VALUES * number_at(first, 2);
-    smaller(HEAD_BYTES + size, first.len())
+    (HEAD_BYTES + size).min(first.len())
 }
 
 // The file, or what is there of it.
@@ -51,7 +42,7 @@ fn file_in(first: &[u8]) -> &[u8]
     ensures { result.now ≡ file_in first.now }
 {
     let end = file_end(first);
-    let start = smaller(HEAD_BYTES, end);
+    let start = HEAD_BYTES.min(end);
     &first[start..end]
 }
 

@@ -7,7 +7,7 @@ use mathlib.Core.List.{List, [], ◌∷◌, ◌++◌, append-nil, append_assoc, 
 use Prim.Native.Nat.{ℕ, suc, ◌+◌, ◌-◌, ◌≤◌, ◌<◌, min}
 use native.Mathlib.Omega.{arith}
 use native.Mathlib.Numerals.{add-one}
-use borrow.Author.Tests.{eq-eqb, ne_eqb, leb-true, le-leb, lt-leb, lt-ltb, le-ltb}
+use borrow.Author.Tests.{eq-eqb, ne_eqb, leb-true, lt-ltb, le-ltb}
 use lib.Dec.{eqb, leb, ltb}
 use lib.ListN.{length, take, drop, set, take-append-drop, drop_of_length-le, length-take, length-set}
 use lib.Seq.{drop-cons, drop-drop, take-nil, take_all, length-take-le}
@@ -29,24 +29,10 @@ use Rattle.output.specs.declared.feeding.Feed.{Feed}
 
 -- ---- room
 
-pub room_short : (answer : LineAnswer) (g t line : ℕ) → line < line_room → false ≡ room_for answer g t line
-unfolding room_for
-room_short (LineAnswer.Next reading) g t line h = rw (lt-leb line_room line h)
-room_short (LineAnswer.Refused why) g t line h = rw (lt-leb line_room line h)
-
 pub room_line : (answer : LineAnswer) (g t line : ℕ) (r : Bool) → r ≡ room_for answer g t line → not r ≡ false → line_room ≤ line
 unfolding room_for
 room_line (LineAnswer.Next reading) g t line r e k = leb-true line_room line (and_left (leb line_room line) (both_fit reading.highest g t) (sym e ∙ not_false r k))
 room_line (LineAnswer.Refused why) g t line r e k = leb-true line_room line (sym e ∙ not_false r k)
-
-module _ (answer : LineAnswer) (g t line : ℕ) (h : line_room ≤ line) where
-  pub room_alone : (why : Refusal) → answer ≡ LineAnswer.Refused why → true ≡ room_for answer g t line
-  unfolding room_for
-  room_alone why e = rw (e, le-leb line_room line h)
-
-  pub room_rows : (reading : Reading) (r : Bool) → answer ≡ LineAnswer.Next reading → r ≡ both_fit reading.highest g t → r ≡ room_for answer g t line
-  unfolding room_for
-  room_rows reading r e f = rw (e, le-leb line_room line h) f
 
 -- ---- bytes of one line
 

@@ -5,6 +5,7 @@ use mathlib.Core.Bool.{Bool, true, false, cond, not, ◌||◌}
 use mathlib.Core.List.{List, [], ◌∷◌}
 use Prim.Native.Char.{code}
 use Prim.Native.Nat.{ℕ, ◌≤◌, ◌<◌}
+use Rattle.std.specs.Prelude.{Result, Ok, Err}
 use native.Mathlib.Omega.{arith}
 use borrow.Author.Tests.{ne_eqb, eqb-true, leb-true, le-leb, lt-leb}
 use lib.Dec.{eqb, leb}
@@ -29,7 +30,7 @@ use Rattle.rules.specs.declared.LineAnswer.{LineAnswer}
 use Rattle.rules.proofs.Bools.{and_left, and_right, not_true, not_false}
 use Rattle.output.specs.Trial.{trial_leaves, stop_of, trial, first_gap, number_pieces, rewritten}
 use Rattle.output.specs.Line.{lent, leaves, both_fit, started, by_kind, answer_to}
-use Rattle.output.specs.declared.numbers.Tried.{Tried}
+use Rattle.output.specs.declared.numbers.Stopped.{Stopped}
 use Rattle.output.proofs.ScanLaws.{Agree, line_agrees, line_back}
 
 -- ---- the kind of a line
@@ -64,8 +65,8 @@ module _ (line : List ℕ) (b : ℕ) (first : b ≡ byte line 0) where
 
 -- ---- a line of numbers
 
-pub stop_within : (r : Tried) (why : Refusal) (stop n : ℕ) → r ≡ Tried.Stopped why stop → stop_of r ≤ n → stop ≤ n
-stop_within r why stop n e h = rw e at h
+pub stop_within : (r : Result Bool Stopped) (stopped : Stopped) (n : ℕ) → r ≡ Err stopped → stop_of r ≤ n → stopped.gap ≤ n
+stop_within r stopped n e h = rw e at h
 
 module _ (reading : Reading) (g t line : List ℕ) (a : Bool) (awaits : a ≡ awaits_numbers reading.phase) where
   -- the verdicts before the scan
@@ -90,7 +91,7 @@ module _ (reading : Reading) (g t line : List ℕ) (a : Bool) (awaits : a ≡ aw
     unfolding judge
     numbers_apart m = refused_by (Grammar 1) (numbers_verdict ∙ rw (not_false a n, sym alone ∙ not_true s m) refl)
 
-    module _ (m : not s ≡ false) (fit : words_for reading.highest ≤ length g) (kind : kind_of line ≡ numbers) (r : Tried) (g' : List ℕ)
+    module _ (m : not s ≡ false) (fit : words_for reading.highest ≤ length g) (kind : kind_of line ≡ numbers) (r : Result Bool Stopped) (g' : List ℕ)
         (tried : trial_leaves r g' ≡ trial reading.highest g first_gap false (number_pieces line)) where
       by_scan : kind_verdict numbers reading g line ≡ (scan_line reading.highest g line).verdict
       unfolding judge
@@ -99,16 +100,16 @@ module _ (reading : Reading) (g t line : List ℕ) (a : Bool) (awaits : a ≡ aw
       agrees : Agree reading.highest (lent g t) fit r g' (rewritten true (length line) t first_gap (number_pieces line)) (scan_line reading.highest g line)
       agrees = rw (sym tried) at (line_agrees reading.highest (lent g t) line fit (kind_v line kind) (sym alone ∙ not_false s m))
 
-      module _ (why : Refusal) (stop : ℕ) (e : r ≡ Tried.Stopped why stop) where
-        back_again : rewritten false stop g' first_gap (number_pieces line) ≡ g
+      module _ (stopped : Stopped) (e : r ≡ Err stopped) where
+        back_again : rewritten false stopped.gap g' first_gap (number_pieces line) ≡ g
         back_again =
-            rw (sym tried) at (line_back reading.highest (lent g t) line fit (kind_v line kind) (sym alone ∙ not_false s m) why stop (ap (λ x. x.answer) (sym tried) ∙ e))
+            rw (sym tried) at (line_back reading.highest (lent g t) line fit (kind_v line kind) (sym alone ∙ not_false s m) stopped (ap (λ x. x.answer) (sym tried) ∙ e))
 
-        pub numbers_stopped : (g'' : List ℕ) → g'' ≡ rewritten false stop g' first_gap (number_pieces line)
-            → leaves (LineAnswer.Refused why) g'' t ≡ by_kind numbers reading (lent g t) line
+        pub numbers_stopped : (g'' : List ℕ) → g'' ≡ rewritten false stopped.gap g' first_gap (number_pieces line)
+            → leaves (LineAnswer.Refused stopped.why) g'' t ≡ by_kind numbers reading (lent g t) line
         numbers_stopped g'' w =
-            ap (λ x. leaves (LineAnswer.Refused why) x t) (w ∙ back_again)
-            ∙ refused_by why (by_scan ∙ (rw e at agrees))
+            ap (λ x. leaves (LineAnswer.Refused stopped.why) x t) (w ∙ back_again)
+            ∙ refused_by stopped.why (by_scan ∙ (rw e at agrees))
 
       passed_by : (c : Bool) → (scan_line reading.highest g line).verdict ≡ Accepted → (scan_line reading.highest g line).closed ≡ c
           → ◌≡◌ {A = Progress} (record {
@@ -118,11 +119,11 @@ module _ (reading : Reading) (g t line : List ℕ) (a : Bool) (awaits : a ≡ aw
       unfolding by_kind phase_after named
       passed_by c v k = rw (by_scan, v, k)
 
-      pub numbers_through : (c : Bool) (t' : List ℕ) (phase : Phase) → r ≡ Tried.Through c → t' ≡ rewritten true (length line) t first_gap (number_pieces line)
+      pub numbers_through : (c : Bool) (t' : List ℕ) (phase : Phase) → r ≡ Ok c → t' ≡ rewritten true (length line) t first_gap (number_pieces line)
           → phase ≡ cond c ModelClosed ModelOpen
           → leaves (LineAnswer.Next (record { highest = reading.highest; phase = phase })) g' t' ≡ by_kind numbers reading (lent g t) line
       numbers_through c t' phase e w p =
-          let f : Agree reading.highest (lent g t) fit (Tried.Through c) g' (rewritten true (length line) t first_gap (number_pieces line)) (scan_line reading.highest g line) =
+          let f : Agree reading.highest (lent g t) fit (Ok c) g' (rewritten true (length line) t first_gap (number_pieces line)) (scan_line reading.highest g line) =
           rw e at agrees in
           ap₂ (λ phase rows. record { answer = LineAnswer.Next (record { highest = reading.highest; phase = phase }); rows = rows }) p
           (ap (lent g') w ∙ f.2)
@@ -144,14 +145,6 @@ unfolding answer_to by_kind kind_verdict phase_after named
 keeps_status reading g t line = nothing_named (kind_verdict status reading [] line) (record { highest = reading.highest; phase = phase_said line }) g t
 
 -- ---- room for the rows
-
-pub fit_not : (highest g t words : ℕ) → words ≡ words_for highest → g < words → false ≡ both_fit highest g t
-unfolding both_fit
-fit_not highest g t words need h = rw (lt-leb (words_for highest) g (omega (arith, need)))
-
-pub fit_by : (highest g t words : ℕ) → words ≡ words_for highest → words ≤ g → leb words t ≡ both_fit highest g t
-unfolding both_fit
-fit_by highest g t words need h = rw (le-leb (words_for highest) g (omega (arith, need)), need)
 
 module _ (highest g t : ℕ) (r : Bool) (fit : r ≡ both_fit highest g t) (ok : not r ≡ false) where
   pub given_fits : words_for highest ≤ g

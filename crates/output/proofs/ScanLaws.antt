@@ -7,6 +7,7 @@ use mathlib.Core.Bool.{Bool, true, false, cond, not, ◌&&◌, ◌||◌, or_asso
 use mathlib.Core.List.{List, [], ◌∷◌, ◌++◌, tail, foldl-append}
 use Prim.Native.Char.{code}
 use Prim.Native.Nat.{ℕ, suc, ◌+◌, ◌-◌, ◌/◌, ◌≤◌, ◌<◌}
+use Rattle.std.specs.Prelude.{Result, Ok, Err}
 use native.Mathlib.Omega.{arith}
 use borrow.Author.Tests.{eq-eqb, ne_eqb, eqb-true, eqb-false, leb-true}
 use lib.Dec.{eqb, leb, ltb}
@@ -25,8 +26,8 @@ use Rattle.rules.proofs.Bools.{either, or_right, or_cases, not_true}
 use Rattle.rules.proofs.Judging.{judge_head, judge_tail}
 use Rattle.rows.proofs.Bits.{length-with, bit_written, bit_kept, with_restored, with_order}
 use Rattle.lent_bytes.specs.Words.{pieces_behind}
-use Rattle.output.specs.Trial.{written, piece_scan, trial_leaves, trial, first_gap, number_pieces, rewritten}
-use Rattle.output.specs.declared.numbers.Tried.{Tried}
+use Rattle.output.specs.Trial.{stop_of, written, piece_scan, trial_leaves, trial, first_gap, number_pieces, rewritten}
+use Rattle.output.specs.declared.numbers.Stopped.{Stopped}
 use Rattle.output.proofs.WordLaws.{there}
 use Rattle.output.proofs.TrialLaws.{written_none, written_one, rewritten_next, rewritten_all}
 
@@ -144,7 +145,7 @@ module _ (highest : ℕ) (row : List ℕ) (gap : ℕ) (closed : Bool) (b : ℕ) 
   abbrev trial_verdict : Verdict
   trial_verdict = judge (word_rules highest row (record { verdict = Accepted; at = suc gap; closed = closed; named = [] }) (b ∷ w))
 
-  trial_word_refused : (why : Refusal) → trial_verdict ≡ Refused why → trial highest row gap closed ((b ∷ w) ∷ ps) ≡ trial_leaves (Tried.Stopped why gap) row
+  trial_word_refused : (why : Refusal) → trial_verdict ≡ Refused why → trial highest row gap closed ((b ∷ w) ∷ ps) ≡ trial_leaves (Err (record { why = why; gap = gap })) row
   unfolding trial piece_scan scan_piece scan_word
   trial_word_refused why e = rw e
 
@@ -189,10 +190,10 @@ module _ (highest : ℕ) (rows₀ : Rows) (fit : words_for highest ≤ length ro
       (either (leb (variable_of p) highest))
 
   -- how the trial and the scan of what is left end
-  abbrev pub Agree : Tried → (given is_true : List ℕ) → Scan → Type 0
-  Agree (Tried.Through c) given is_true s =
+  abbrev pub Agree : Result Bool Stopped → (given is_true : List ℕ) → Scan → Type 0
+  Agree (Ok c) given is_true s =
       (s.verdict ≡ Accepted) × (s.closed ≡ c) × (◌≡◌ {A = Rows} (record { given = given; is_true = is_true }) (store_all rows₀ s.named))
-  Agree (Tried.Stopped why gap) given is_true s = s.verdict ≡ Refused why
+  Agree (Err stopped) given is_true s = s.verdict ≡ Refused stopped.why
 
   -- what comes after an empty piece, after the closing 0, and after a variable
   ready_empty : (scan : Scan) (rows : Rows) (gap : ℕ) → Ready scan rows gap → Ready (scan_piece highest rows₀.given scan []) rows (gap + 1)
@@ -340,38 +341,38 @@ clear_marked highest row scan p ok =
 -- how a trial left the row, and that it stopped behind where it began
 abbrev Back : (highest : ℕ) → List ℕ → ℕ → Bool → List (List ℕ) → Type 0
 Back highest row gap closed ps =
-    (why : Refusal) (stop : ℕ) → (trial highest row gap closed ps).answer ≡ Tried.Stopped why stop
-    → (gap ≤ stop) × (rewritten false stop (trial highest row gap closed ps).row gap ps ≡ row)
+    (stopped : Stopped) → (trial highest row gap closed ps).answer ≡ Err stopped
+    → (gap ≤ stopped.gap) × (rewritten false stopped.gap (trial highest row gap closed ps).row gap ps ≡ row)
 
 back_none : (highest : ℕ) (row : List ℕ) (gap : ℕ) (closed : Bool) → Back highest row gap closed []
 unfolding trial
-back_none highest row gap closed why stop e =
-    let f : Tried.Through closed ≡ Tried.Stopped why stop = e in let z : ◌≡◌ {A = ℕ} 0 1 = cc in absurd (omega arith)
+back_none highest row gap closed stopped e =
+    let f : ◌≡◌ {A = Result Bool Stopped} (Ok closed) (Err stopped) = e in let z : ◌≡◌ {A = ℕ} 0 1 = cc in absurd (omega arith)
 
 back_empty : (highest : ℕ) (row : List ℕ) (gap : ℕ) (closed : Bool) (ps : List (List ℕ)) → Back highest row (gap + 1) closed ps → Back highest row gap closed ([] ∷ ps)
 back_empty highest row gap closed ps rest =
-    rw (trial_empty highest row gap closed ps) (λ why stop e.
-    (omega (arith, (rest why stop e).0), rewritten_empty false stop (trial highest row (gap + 1) closed ps).row gap ps ∙ (rest why stop e).1))
+    rw (trial_empty highest row gap closed ps) (λ stopped e.
+    (omega (arith, (rest stopped e).0), rewritten_empty false stopped.gap (trial highest row (gap + 1) closed ps).row gap ps ∙ (rest stopped e).1))
 
 back_word : (highest : ℕ) (row : List ℕ) (gap : ℕ) (closed : Bool) (b : ℕ) (w : List ℕ) (ps : List (List ℕ))
     → Back highest (written true row (b ∷ w)) (gap + suc (length (b ∷ w))) (closed || eqb (variable_of (b ∷ w)) 0) ps
     → (judged : Verdict) → judge (word_rules highest row (record { verdict = Accepted; at = suc gap; closed = closed; named = [] }) (b ∷ w)) ≡ judged
     → Back highest row gap closed ((b ∷ w) ∷ ps)
 back_word highest row gap closed b w ps rest Accepted ok =
-    rw (trial_word_passed highest row gap closed b w ps ok) (λ why stop e.
+    rw (trial_word_passed highest row gap closed b w ps ok) (λ stopped e.
     let p : List ℕ = b ∷ w in
     let end : List ℕ = (trial highest (written true row p) (gap + suc (length p)) (closed || eqb (variable_of p) 0) ps).row in
-    let behind : gap + suc (length p) ≤ stop = (rest why stop e).0 in (
+    let behind : gap + suc (length p) ≤ stopped.gap = (rest stopped e).0 in (
       omega arith,
-      rewritten_next false stop end gap p ps (omega arith)
-          ∙ clear_last stop end (gap + suc (length p)) p ps
-          ∙ ap (λ r. written false r p) (rest why stop e).1
+      rewritten_next false stopped.gap end gap p ps (omega arith)
+          ∙ clear_last stopped.gap end (gap + suc (length p)) p ps
+          ∙ ap (λ r. written false r p) (rest stopped e).1
           ∙ clear_marked highest row _ p ok,
     ))
 back_word highest row gap closed b w ps rest (Refused y) ok =
-    rw (trial_word_refused highest row gap closed b w ps y ok) (λ why stop e.
-    let here : gap ≡ stop = (let f : Tried.Stopped y gap ≡ Tried.Stopped why stop = e in cc) in
-    (omega arith, rewritten_all false stop row gap ((b ∷ w) ∷ ps) (omega arith)))
+    rw (trial_word_refused highest row gap closed b w ps y ok) (λ stopped e.
+    let here : gap ≡ stopped.gap = (let f : ◌≡◌ {A = Result Bool Stopped} (Err (record { why = y; gap = gap })) (Err stopped) = e in ap stop_of f) in
+    (omega arith, rewritten_all false stopped.gap row gap ((b ∷ w) ∷ ps) (omega arith)))
 
 back : (highest : ℕ) (row : List ℕ) (gap : ℕ) (closed : Bool) (ps : List (List ℕ)) → Back highest row gap closed ps
 back highest row gap closed [] = back_none highest row gap closed
@@ -407,6 +408,6 @@ module _ (highest : ℕ) (rows : Rows) (line : List ℕ) (fit : words_for highes
       (record { so_far = refl; place = refl; stored = refl; long = refl; bits = λ u h l. sym (or-false (bit_of_variable rows.given u)) })
       (omega (arith, total_line)))
 
-  pub line_back : (why : Refusal) (stop : ℕ) → (trial highest rows.given first_gap false (number_pieces line)).answer ≡ Tried.Stopped why stop
-      → rewritten false stop (trial highest rows.given first_gap false (number_pieces line)).row first_gap (number_pieces line) ≡ rows.given
-  line_back why stop e = (back highest rows.given first_gap false (number_pieces line) why stop e).1
+  pub line_back : (stopped : Stopped) → (trial highest rows.given first_gap false (number_pieces line)).answer ≡ Err stopped
+      → rewritten false stopped.gap (trial highest rows.given first_gap false (number_pieces line)).row first_gap (number_pieces line) ≡ rows.given
+  line_back stopped e = (back highest rows.given first_gap false (number_pieces line) stopped e).1

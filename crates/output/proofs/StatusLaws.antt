@@ -1,10 +1,10 @@
 -- Laws of comments and status lines: each answer by the rule that decides it.
 -- Assumes nothing.
-use mathlib.Core.Path.{◌≡◌, refl, sym, ap, ap₂, ◌∙◌}
+use mathlib.Core.Path.{◌≡◌, refl, sym, ap, ◌∙◌}
 use mathlib.Core.Bool.{Bool, true, false, not, ◌||◌}
 use mathlib.Core.List.{List, [], ◌∷◌}
 use Prim.Native.Nat.{ℕ, max}
-use borrow.Author.Tests.{eq-eqb, ne_eqb}
+use native.Mathlib.Omega.{arith}
 use lib.Dec.{eqb}
 use lib.ListN.{length}
 use Rattle.rules.proofs.Bools.{not_true, not_false}
@@ -18,12 +18,6 @@ use Rattle.rules.specs.declared.Phase.TheVariants.{ModelOpen, SaidUnsatisfiable,
 use Rattle.rules.specs.declared.Reading.{Reading}
 use Rattle.rules.specs.declared.LineAnswer.{LineAnswer}
 use Rattle.output.specs.Line.{lent, by_kind, answer_to}
-
-pub alone_short : (line : List ℕ) → length line ≡ 1 → true ≡ (eqb (length line) 1 || eqb (byte line 1) space)
-alone_short line h = rw (eq-eqb (length line) 1 h)
-
-pub alone_parted : (line : List ℕ) (b : ℕ) → (length line ≡ 1 → ⊥) → b ≡ byte line 1 → eqb b space ≡ (eqb (length line) 1 || eqb (byte line 1) space)
-alone_parted line b h e = rw (ne_eqb (length line) 1 h, e)
 
 pub comment_skipped : (reading : Reading) (line : List ℕ) (r : Bool) → r ≡ (eqb (length line) 1 || eqb (byte line 1) space) → r ≡ true
     → LineAnswer.Next reading ≡ answer_to comment reading line
@@ -77,10 +71,10 @@ module _ (reading : Reading) (line : List ℕ) (a : Bool) (awaits : a ≡ awaits
         status_unknown w = says SaidUnknown (rw (sym e ∙ u, sym f ∙ v, sym g ∙ w)) (rw (sym e ∙ u, sym f ∙ v))
 
         pub status_broken : z ≡ false → (n m i j k : ℕ) → i ≡ agree line says_satisfiable → j ≡ agree line says_unsatisfiable → k ≡ agree line says_unknown
-            → m ≡ max j k → n ≡ max i m → LineAnswer.Refused (Grammar n) ≡ answer_to status reading line
+            → m ≡ max i j → n ≡ max m k → LineAnswer.Refused (Grammar n) ≡ answer_to status reading line
         unfolding is_status status_reach judge
         status_broken w n m i j k a₁ a₂ a₃ b₁ b₂ =
-            let reached : n ≡ status_reach line = b₂ ∙ ap₂ max a₁ (b₁ ∙ ap₂ max a₂ a₃) in
+            let reached : n ≡ status_reach line = omega (arith, a₁, a₂, a₃, b₁, b₂) in
             let h : LineAnswer.Refused (Grammar n) ≡ gives a (is_status line) (status_reach line) (phase_said line) =
             rw (not_false a t, sym e ∙ u, sym f ∙ v, sym g ∙ w, reached) refl in
             h ∙ given_by

@@ -5,6 +5,7 @@ use mathlib.Core.Logic.{⊎_elim}
 use mathlib.Core.Bool.{Bool, true, false, not, ◌&&◌, ◌||◌}
 use mathlib.Core.List.{List, [], ◌∷◌}
 use Prim.Native.Nat.{ℕ, suc, ◌+◌, ◌-◌, ◌≤◌, ◌<◌}
+use Rattle.std.specs.Prelude.{Result, Ok, Err}
 use native.Mathlib.Omega.{arith}
 use borrow.Author.Tests.{eq-eqb, ne_eqb, le-leb, lt-leb, lt-ltb, le-ltb}
 use mir.Syntax.{w64}
@@ -28,38 +29,38 @@ use Rattle.rules.proofs.Judging.{judge_nil, judge_refused, judge_passed}
 use Rattle.lent_bytes.specs.Words.{length_until, pieces_behind, EndsAt}
 use Rattle.output.specs.Words.{word_of}
 use Rattle.output.specs.Trial.{written, piece_scan, PieceTrial, piece_leaves, piece_trial, try_piece, Trial, trial_leaves, trial, first_gap, number_pieces, rewritten}
-use Rattle.output.specs.declared.words.Word.{Word}
-use Rattle.output.specs.declared.words.Word.TheVariants.{Number, Broken}
-use Rattle.output.specs.declared.numbers.Piece.{Piece}
-use Rattle.output.specs.declared.numbers.Tried.{Tried}
+use Rattle.output.specs.declared.words.Number.{Number}
 use Rattle.lent_bytes.proofs.WordLaws.{pieces_cut}
 use Rattle.output.proofs.WordLaws.{reach_most}
 
 -- ---- what the answer on a word says of it
 
-no_number : (p : List ℕ) (r : ℕ) → Broken r ≡ word_of p → is_number p ≡ false
+abbrev number : List ℕ → Number
+number p = record { variable = variable_of p; negative = is_negative p }
+
+no_number : (p : List ℕ) (r : ℕ) → Err r ≡ word_of p → is_number p ≡ false
 unfolding word_of
-no_number p r e = ⊎_elim (λ t. let f : Broken r ≡ Number (variable_of p) (is_negative p) = rw t at e in cc) (λ t. t) (either (is_number p))
+no_number p r e = ⊎_elim (λ t. let f : ◌≡◌ {A = Result Number ℕ} (Err r) (Ok (number p)) = rw t at e in cc) (λ t. t) (either (is_number p))
 
-reached_is : (p : List ℕ) (r : ℕ) → Broken r ≡ word_of p → r ≡ reach p
+reached_is : (p : List ℕ) (r : ℕ) → Err r ≡ word_of p → r ≡ reach p
 unfolding word_of
-reached_is p r e = let f : Broken r ≡ Broken (reach p) = rw (no_number p r e) at e in cc
+reached_is p r e = let f : ◌≡◌ {A = Result Number ℕ} (Err r) (Err (reach p)) = rw (no_number p r e) at e in cc
 
-is_number_lem : (p : List ℕ) (v : ℕ) (n : Bool) → Number v n ≡ word_of p → is_number p ≡ true
+is_number_lem : (p : List ℕ) (m : Number) → Ok m ≡ word_of p → is_number p ≡ true
 unfolding word_of
-is_number_lem p v n e = ⊎_elim (λ t. t) (λ t. let f : Number v n ≡ Broken (reach p) = rw t at e in cc) (either (is_number p))
+is_number_lem p m e = ⊎_elim (λ t. t) (λ t. let f : ◌≡◌ {A = Result Number ℕ} (Ok m) (Err (reach p)) = rw t at e in cc) (either (is_number p))
 
-number_parts : (p : List ℕ) (v : ℕ) (n : Bool) → Number v n ≡ word_of p → Number v n ≡ Number (variable_of p) (is_negative p)
+number_parts : (p : List ℕ) (m : Number) → Ok m ≡ word_of p → m ≡ number p
 unfolding word_of
-number_parts p v n e = rw (is_number_lem p v n e) at e
+number_parts p m e = let f : ◌≡◌ {A = Result Number ℕ} (Ok m) (Ok (number p)) = rw (is_number_lem p m e) at e in cc
 
-variable_is : (p : List ℕ) (v : ℕ) (n : Bool) → Number v n ≡ word_of p → v ≡ variable_of p
-variable_is p v n e = let f : Number v n ≡ Number (variable_of p) (is_negative p) = number_parts p v n e in cc
+variable_is : (p : List ℕ) (m : Number) → Ok m ≡ word_of p → m.variable ≡ variable_of p
+variable_is p m e = ap (λ m. m.variable) (number_parts p m e)
 
-sign_is : (p : List ℕ) (v : ℕ) (n : Bool) → Number v n ≡ word_of p → n ≡ is_negative p
-sign_is p v n e = let f : Number v n ≡ Number (variable_of p) (is_negative p) = number_parts p v n e in cc
+sign_is : (p : List ℕ) (m : Number) → Ok m ≡ word_of p → m.negative ≡ is_negative p
+sign_is p m e = ap (λ m. m.negative) (number_parts p m e)
 
-pub reached_fits : (p : List ℕ) (w : Word) (r at : ℕ) → at ≤ max_line + 1 → w ≡ word_of p → w ≡ Broken r → Fits w64 (at + r)
+pub reached_fits : (p : List ℕ) (w : Result Number ℕ) (r at : ℕ) → at ≤ max_line + 1 → w ≡ word_of p → w ≡ Err r → Fits w64 (at + r)
 reached_fits p w r at h e f = record { fits = omega (arith, reached_is p r (sym f ∙ e), reach_most p) }
 
 -- ---- one piece
@@ -74,19 +75,19 @@ word_scan highest row at closed [] h = absurd (h refl)
 word_scan highest row at closed (b ∷ p) h = refl
 
 pub try_empty : (highest : ℕ) (row : List ℕ) (at : ℕ) (closed : Bool) (p : List ℕ) → length p ≡ 0
-    → ◌≡◌ {A = PieceTrial} (piece_leaves (Piece.Taken closed) row) (try_piece highest row at closed p)
+    → ◌≡◌ {A = PieceTrial} (piece_leaves (Ok closed) row) (try_piece highest row at closed p)
 unfolding try_piece piece_scan scan_piece written is_number reach first
 try_empty highest row at closed [] h = refl
 try_empty highest row at closed (b ∷ p) h = absurd (omega arith)
 
 module _ (highest : ℕ) (row : List ℕ) (at : ℕ) (closed : Bool) (p : List ℕ) (h : length p ≡ 0 → ⊥) where
   try_refused : (why : Refusal) → judge (word_rules highest row (scan_at at closed) p) ≡ Refused why
-      → ◌≡◌ {A = PieceTrial} (piece_leaves (Piece.Refused why) row) (try_piece highest row at closed p)
+      → ◌≡◌ {A = PieceTrial} (piece_leaves (Err why) row) (try_piece highest row at closed p)
   unfolding try_piece scan_word
   try_refused why e = rw (word_scan highest row at closed p h, e)
 
   try_passed : judge (word_rules highest row (scan_at at closed) p) ≡ Accepted
-      → ◌≡◌ {A = PieceTrial} (piece_leaves (Piece.Taken (closed || eqb (variable_of p) 0)) (written true row p)) (try_piece highest row at closed p)
+      → ◌≡◌ {A = PieceTrial} (piece_leaves (Ok (closed || eqb (variable_of p) 0)) (written true row p)) (try_piece highest row at closed p)
   unfolding try_piece scan_word
   try_passed e = rw (word_scan highest row at closed p h, e)
 
@@ -148,69 +149,70 @@ fresh row v b = rw b (or_right (eqb v 0) true refl)
 
 -- ---- the exits of the function that takes a piece
 
-module _ (highest : ℕ) (row : List ℕ) (at : ℕ) (closed : Bool) (p : List ℕ) (h : length p ≡ 0 → ⊥) (w : Word) (e : w ≡ word_of p) where
-  pub piece_broken : (r : ℕ) → w ≡ Broken r
-      → ◌≡◌ {A = PieceTrial} (piece_leaves (Piece.Refused (Grammar (at + r))) row) (try_piece highest row at closed p)
+module _ (highest : ℕ) (row : List ℕ) (at : ℕ) (closed : Bool) (p : List ℕ) (h : length p ≡ 0 → ⊥) (w : Result Number ℕ) (e : w ≡ word_of p) where
+  pub piece_broken : (r : ℕ) → w ≡ Err r
+      → ◌≡◌ {A = PieceTrial} (piece_leaves (Err (Grammar (at + r))) row) (try_piece highest row at closed p)
   piece_broken r f =
-      ap (λ r. piece_leaves (Piece.Refused (Grammar (at + r))) row) (reached_is p r (sym f ∙ e))
+      ap (λ r. piece_leaves (Err (Grammar (at + r))) row) (reached_is p r (sym f ∙ e))
       ∙ try_refused highest row at closed p h (Grammar (at + reach p)) (refuses_11 highest row (scan_at at closed) p (no_number p r (sym f ∙ e)))
 
-  module _ (v : ℕ) (n : Bool) (f : w ≡ Number v n) where
+  module _ (m : Number) (f : w ≡ Ok m) where
     pub piece_closed : closed ≡ true
-        → ◌≡◌ {A = PieceTrial} (piece_leaves (Piece.Refused (OutOfPlace at)) row) (try_piece highest row at closed p)
-    piece_closed b = try_refused highest row at closed p h (OutOfPlace at) (refuses_12 highest row (scan_at at closed) p (is_number_lem p v n (sym f ∙ e)) b)
+        → ◌≡◌ {A = PieceTrial} (piece_leaves (Err (OutOfPlace at)) row) (try_piece highest row at closed p)
+    piece_closed b = try_refused highest row at closed p h (OutOfPlace at) (refuses_12 highest row (scan_at at closed) p (is_number_lem p m (sym f ∙ e)) b)
 
-    pub piece_over : closed ≡ false → highest < v
-        → ◌≡◌ {A = PieceTrial} (piece_leaves (Piece.Refused (OverN at)) row) (try_piece highest row at closed p)
+    pub piece_over : closed ≡ false → highest < m.variable
+        → ◌≡◌ {A = PieceTrial} (piece_leaves (Err (OverN at)) row) (try_piece highest row at closed p)
     piece_over b c =
         try_refused highest row at closed p h (OverN at)
-        (refuses_13 highest row (scan_at at closed) p (is_number_lem p v n (sym f ∙ e)) b (omega (arith, variable_is p v n (sym f ∙ e))))
+        (refuses_13 highest row (scan_at at closed) p (is_number_lem p m (sym f ∙ e)) b (omega (arith, variable_is p m (sym f ∙ e))))
 
-    pub piece_zero : closed ≡ false → v ≤ highest → v ≡ 0
-        → ◌≡◌ {A = PieceTrial} (piece_leaves (Piece.Taken true) row) (try_piece highest row at closed p)
+    pub piece_zero : closed ≡ false → m.variable ≤ highest → m.variable ≡ 0
+        → ◌≡◌ {A = PieceTrial} (piece_leaves (Ok true) row) (try_piece highest row at closed p)
     piece_zero b c z =
-        let a : is_number p ≡ true = is_number_lem p v n (sym f ∙ e) in
-        let u : variable_of p ≡ 0 = sym (variable_is p v n (sym f ∙ e)) ∙ z in
-        ap₂ (λ t r. piece_leaves (Piece.Taken t) r) (sym (rw (b, eq-eqb (variable_of p) 0 u))) (sym (written_none true row p u))
+        let a : is_number p ≡ true = is_number_lem p m (sym f ∙ e) in
+        let u : variable_of p ≡ 0 = sym (variable_is p m (sym f ∙ e)) ∙ z in
+        ap₂ (λ t r. piece_leaves (Ok t) r) (sym (rw (b, eq-eqb (variable_of p) 0 u))) (sym (written_none true row p u))
         ∙ try_passed highest row at closed p h (passes highest row (scan_at at closed) p a b (omega arith) (rw (eq-eqb (variable_of p) 0 u)))
 
-    pub piece_before : (s : Bool) → closed ≡ false → v ≤ highest → (v ≡ 0 → ⊥) → s ≡ bit_of_variable row v → s ≡ true
-        → ◌≡◌ {A = PieceTrial} (piece_leaves (Piece.Refused (GivenBefore at)) row) (try_piece highest row at closed p)
+    pub piece_before : (s : Bool) → closed ≡ false → m.variable ≤ highest → (m.variable ≡ 0 → ⊥) → s ≡ bit_of_variable row m.variable → s ≡ true
+        → ◌≡◌ {A = PieceTrial} (piece_leaves (Err (GivenBefore at)) row) (try_piece highest row at closed p)
     piece_before s b c z g t =
-        let u : v ≡ variable_of p = variable_is p v n (sym f ∙ e) in
+        let u : m.variable ≡ variable_of p = variable_is p m (sym f ∙ e) in
         let bit : bit_of_variable row (variable_of p) ≡ true = ap (bit_of_variable row) (sym u) ∙ sym g ∙ t in
         try_refused highest row at closed p h (GivenBefore at)
-        (refuses_14 highest row (scan_at at closed) p (is_number_lem p v n (sym f ∙ e)) b (omega arith) (rw (ne_eqb (variable_of p) 0 (λ o. z (u ∙ o)), bit)))
+        (refuses_14 highest row (scan_at at closed) p (is_number_lem p m (sym f ∙ e)) b (omega arith) (rw (ne_eqb (variable_of p) 0 (λ o. z (u ∙ o)), bit)))
 
-    pub piece_new : (s : Bool) (marked : List ℕ) → closed ≡ false → v ≤ highest → (v ≡ 0 → ⊥) → s ≡ bit_of_variable row v → s ≡ false
-        → marked ≡ with_variable row v true
-        → ◌≡◌ {A = PieceTrial} (piece_leaves (Piece.Taken false) marked) (try_piece highest row at closed p)
-    piece_new s marked b c z g t m =
-        let a : is_number p ≡ true = is_number_lem p v n (sym f ∙ e) in
-        let u : v ≡ variable_of p = variable_is p v n (sym f ∙ e) in
+    pub piece_new : (s : Bool) (marked : List ℕ) → closed ≡ false → m.variable ≤ highest → (m.variable ≡ 0 → ⊥) → s ≡ bit_of_variable row m.variable → s ≡ false
+        → marked ≡ with_variable row m.variable true
+        → ◌≡◌ {A = PieceTrial} (piece_leaves (Ok false) marked) (try_piece highest row at closed p)
+    piece_new s marked b c z g t k =
+        let a : is_number p ≡ true = is_number_lem p m (sym f ∙ e) in
+        let u : m.variable ≡ variable_of p = variable_is p m (sym f ∙ e) in
         let bit : bit_of_variable row (variable_of p) ≡ false = ap (bit_of_variable row) (sym u) ∙ sym g ∙ t in
         let new : variable_of p ≡ 0 → ⊥ = λ o. z (u ∙ o) in
-        ap₂ (λ t r. piece_leaves (Piece.Taken t) r) (sym (rw (b, ne_eqb (variable_of p) 0 new)))
-        (m ∙ ap (λ x. with_variable row x true) u ∙ sym (written_one true row p a new))
+        ap₂ (λ t r. piece_leaves (Ok t) r) (sym (rw (b, ne_eqb (variable_of p) 0 new)))
+        (k ∙ ap (λ x. with_variable row x true) u ∙ sym (written_one true row p a new))
         ∙ try_passed highest row at closed p h (passes highest row (scan_at at closed) p a b (omega arith) (fresh row (variable_of p) bit))
 
 -- ---- the exits of the function that writes a word's bit
 
-module _ (row p : List ℕ) (signs : Bool) (w : Word) (e : w ≡ word_of p) where
-  pub write_broken : (r : ℕ) → w ≡ Broken r → row ≡ written (signs && not (is_negative p)) row p
+module _ (row p : List ℕ) (signs : Bool) (w : Result Number ℕ) (e : w ≡ word_of p) where
+  pub write_broken : (r : ℕ) → w ≡ Err r → row ≡ written (signs && not (is_negative p)) row p
   unfolding written
   write_broken r f = rw (no_number p r (sym f ∙ e))
 
-  pub write_zero : (v : ℕ) (n : Bool) → w ≡ Number v n → v ≡ 0 → row ≡ written (signs && not (is_negative p)) row p
-  write_zero v n f z = sym (written_none (signs && not (is_negative p)) row p (sym (variable_is p v n (sym f ∙ e)) ∙ z))
+  module _ (m : Number) (f : w ≡ Ok m) where
+    pub write_zero : m.variable ≡ 0 → row ≡ written (signs && not (is_negative p)) row p
+    write_zero z = sym (written_none (signs && not (is_negative p)) row p (sym (variable_is p m (sym f ∙ e)) ∙ z))
 
-  pub write_one : (v : ℕ) (n on : Bool) (s : List ℕ) → w ≡ Number v n → (v ≡ 0 → ⊥) → on ≡ (signs && not n) → s ≡ with_variable row v on
-      → s ≡ written (signs && not (is_negative p)) row p
-  write_one v n on s f z o k =
-      let u : v ≡ variable_of p = variable_is p v n (sym f ∙ e) in
-      k
-      ∙ ap₂ (λ v b. with_variable row v b) u (o ∙ ap (λ n. signs && not n) (sign_is p v n (sym f ∙ e)))
-      ∙ sym (written_one (signs && not (is_negative p)) row p (is_number_lem p v n (sym f ∙ e)) (λ q. z (u ∙ q)))
+    pub write_one : (on : Bool) (s : List ℕ) → (m.variable ≡ 0 → ⊥) → on ≡ (signs && not m.negative) → s ≡ with_variable row m.variable on
+        → s ≡ written (signs && not (is_negative p)) row p
+    write_one on s z o k =
+        let u : m.variable ≡ variable_of p = variable_is p m (sym f ∙ e) in
+        k
+        ∙ ap₂ (λ v b. with_variable row v b) u (o ∙ ap (λ n. signs && not n) (sign_is p m (sym f ∙ e)))
+        ∙ sym (written_one (signs && not (is_negative p)) row p (is_number_lem p m (sym f ∙ e)) (λ q. z (u ∙ q)))
 
 -- ---- the pieces of a line
 
@@ -235,24 +237,24 @@ unfolding pieces_behind
 no_pieces line gap h = rw (drop_of_length-le line h)
 
 -- what a piece left, and its verdict
-left_taken : (judged : Verdict) (k c : Bool) (m r s : List ℕ) → piece_leaves (Piece.Taken c) s ≡ piece_trial judged k m r → (judged ≡ Accepted) × (c ≡ k) × (s ≡ m)
-left_taken Accepted k c m r s e = (refl, (let f : Piece.Taken c ≡ Piece.Taken k = ap (λ t. t.answer) e in cc), ap (λ t. t.row) e)
-left_taken (Refused why) k c m r s e = let f : Piece.Taken c ≡ Piece.Refused why = ap (λ t. t.answer) e in (cc, cc, cc)
+left_taken : (judged : Verdict) (k c : Bool) (m r s : List ℕ) → piece_leaves (Ok c) s ≡ piece_trial judged k m r → (judged ≡ Accepted) × (c ≡ k) × (s ≡ m)
+left_taken Accepted k c m r s e = (refl, (let f : ◌≡◌ {A = Result Bool Refusal} (Ok c) (Ok k) = ap (λ t. t.answer) e in cc), ap (λ t. t.row) e)
+left_taken (Refused why) k c m r s e = let f : ◌≡◌ {A = Result Bool Refusal} (Ok c) (Err why) = ap (λ t. t.answer) e in (cc, cc, cc)
 
-left_refused : (judged : Verdict) (k : Bool) (why : Refusal) (m r s : List ℕ) → piece_leaves (Piece.Refused why) s ≡ piece_trial judged k m r → (judged ≡ Refused why) × (s ≡ r)
-left_refused Accepted k why m r s e = let f : Piece.Refused why ≡ Piece.Taken k = ap (λ t. t.answer) e in (cc, cc)
-left_refused (Refused y) k why m r s e = ((let f : Piece.Refused why ≡ Piece.Refused y = ap (λ t. t.answer) e in cc), ap (λ t. t.row) e)
+left_refused : (judged : Verdict) (k : Bool) (why : Refusal) (m r s : List ℕ) → piece_leaves (Err why) s ≡ piece_trial judged k m r → (judged ≡ Refused why) × (s ≡ r)
+left_refused Accepted k why m r s e = let f : ◌≡◌ {A = Result Bool Refusal} (Err why) (Ok k) = ap (λ t. t.answer) e in (cc, cc)
+left_refused (Refused y) k why m r s e = ((let f : ◌≡◌ {A = Result Bool Refusal} (Err why) (Err y) = ap (λ t. t.answer) e in cc), ap (λ t. t.row) e)
 
 module _ (highest : ℕ) (row : List ℕ) (gap : ℕ) (closed : Bool) (p : List ℕ) (ps : List (List ℕ)) where
-  trial_taken : (c : Bool) (s : List ℕ) → piece_leaves (Piece.Taken c) s ≡ try_piece highest row (suc gap) closed p
+  trial_taken : (c : Bool) (s : List ℕ) → piece_leaves (Ok c) s ≡ try_piece highest row (suc gap) closed p
       → trial highest row gap closed (p ∷ ps) ≡ trial highest s (gap + suc (length p)) c ps
   unfolding trial try_piece
   trial_taken c s e =
       let f = left_taken (piece_scan highest row (suc gap) closed p).verdict _ c (written true row p) row s e in
       rw (f.0, f.1, f.2)
 
-  trial_refused : (why : Refusal) (s : List ℕ) → piece_leaves (Piece.Refused why) s ≡ try_piece highest row (suc gap) closed p
-      → trial highest row gap closed (p ∷ ps) ≡ trial_leaves (Tried.Stopped why gap) s
+  trial_refused : (why : Refusal) (s : List ℕ) → piece_leaves (Err why) s ≡ try_piece highest row (suc gap) closed p
+      → trial highest row gap closed (p ∷ ps) ≡ trial_leaves (Err (record { why = why; gap = gap })) s
   unfolding trial try_piece
   trial_refused why s e =
       let f = left_refused (piece_scan highest row (suc gap) closed p).verdict _ why (written true row p) row s e in
@@ -267,23 +269,23 @@ tried_start highest row closed line = refl
 
 module _ (highest : ℕ) (row : List ℕ) (closed : Bool) (line : List ℕ) (gap : ℕ) (whole : Trial)
     (left : trial highest row gap closed (pieces_behind space (drop gap line)) ≡ whole) where
-  pub tried_through : length line ≤ gap → trial_leaves (Tried.Through closed) row ≡ whole
+  pub tried_through : length line ≤ gap → trial_leaves (Ok closed) row ≡ whole
   unfolding trial
   tried_through h = sym (ap (trial highest row gap closed) (no_pieces line gap h)) ∙ left
 
-  module _ (end : ℕ) (r : Piece) (s : List ℕ) (h : gap < length line) (e : EndsAt line (gap + 1) end)
+  module _ (end : ℕ) (r : Result Bool Refusal) (s : List ℕ) (h : gap < length line) (e : EndsAt line (gap + 1) end)
       (t : piece_leaves r s ≡ try_piece highest row (gap + 1) closed (take (end - (gap + 1)) (drop (gap + 1) line))) where
     piece : piece_leaves r s ≡ try_piece highest row (suc gap) closed (take (end - (gap + 1)) (drop (gap + 1) line))
     piece = t ∙ ap (λ k. try_piece highest row k closed (take (end - (gap + 1)) (drop (gap + 1) line))) (add-one gap)
 
-    pub tried_stopped : (why : Refusal) → r ≡ Piece.Refused why → trial_leaves (Tried.Stopped why gap) s ≡ whole
+    pub tried_stopped : (why : Refusal) → r ≡ Err why → trial_leaves (Err (record { why = why; gap = gap })) s ≡ whole
     tried_stopped why f =
         sym (trial_refused highest row gap closed (take (end - (gap + 1)) (drop (gap + 1) line)) (pieces_behind space (drop end line)) why s
         (ap (λ r. piece_leaves r s) (sym f) ∙ piece))
         ∙ ap (trial highest row gap closed) (sym (gap_pieces line gap end h e))
         ∙ left
 
-    pub tried_on : (c : Bool) → r ≡ Piece.Taken c → trial highest s end c (pieces_behind space (drop end line)) ≡ whole
+    pub tried_on : (c : Bool) → r ≡ Ok c → trial highest s end c (pieces_behind space (drop end line)) ≡ whole
     tried_on c f =
         ap (λ k. trial highest s k c (pieces_behind space (drop end line))) (sym (gap_length line gap end e))
         ∙ sym (trial_taken highest row gap closed (take (end - (gap + 1)) (drop (gap + 1) line)) (pieces_behind space (drop end line)) c s

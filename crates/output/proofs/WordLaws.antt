@@ -4,7 +4,8 @@ use mathlib.Core.Path.{◌≡◌, refl, sym, ap, ap₂, ◌∙◌}
 use mathlib.Core.Logic.{⊎_elim}
 use mathlib.Core.Bool.{Bool, true, false, cond, not}
 use mathlib.Core.List.{List, [], ◌∷◌, ◌++◌}
-use Prim.Native.Nat.{ℕ, zero, suc, ◌+◌, ◌-◌, ◌*◌, ◌^◌, ◌≤◌, ◌<◌}
+use Prim.Native.Nat.{ℕ, zero, suc, ◌+◌, ◌-◌, ◌*◌, ◌^◌, ◌≤◌, ◌<◌, min}
+use Rattle.std.specs.Prelude.{Ok, Err}
 use native.Mathlib.Omega.{arith}
 use native.Mathlib.Numerals.{add-one}
 use borrow.Author.Tests.{eq-eqb, ne_eqb, eqb-true, eqb-false, leb-true, lt-ltb, le-ltb}
@@ -19,10 +20,9 @@ use Rattle.rules.specs.File.{byte}
 use Rattle.rules.specs.Text.{dash, digit0}
 use Rattle.rules.specs.Lines.{is_digit, is_negative, sign_bytes, digits, reach, is_number, value_from, variable_of}
 use Rattle.rules.proofs.Bools.{either, clash, and_left, and_right, not_false, below_or, below_suc}
-use Rattle.rules.proofs.Counting.{first_at, first_none, first_is}
+use Rattle.rules.proofs.Counting.{first_le, first_at, first_is}
 use Rattle.lent_bytes.proofs.WordLaws.{byte_past, from, room_tenfold, room_next, value_grows}
 use Rattle.output.specs.Words.{digit_run, reached_value, word_of}
-use Rattle.output.specs.declared.words.Word.TheVariants.{Number, Broken}
 
 -- ---- what the bytes say
 
@@ -39,9 +39,6 @@ sign_there w b r e = there w 0 44 (sym r ∙ e)
 pub sign_not : (w : List ℕ) (b : ℕ) → b ≡ byte w 0 → (b ≡ dash → ⊥) → 0 ≡ sign_bytes w
 sign_not w b r e = rw (ne_eqb (byte w 0) dash (λ f. e (r ∙ f)))
 
-below : (i n : ℕ) → i ≤ n → (i ≡ n → ⊥) → i < n
-below i n l d = ⊎_elim (λ h. h) (λ h. absurd (d (omega arith))) (below_or i n)
-
 -- the run of digits ends after six, at another byte, or with the text
 abbrev pub AllDigits : List ℕ → ℕ → Type 0
 AllDigits s i = (k : ℕ) → k < i → not (is_digit (byte s k)) ≡ false
@@ -49,21 +46,17 @@ AllDigits s i = (k : ℕ) → k < i → not (is_digit (byte s k)) ≡ false
 pub run_none : (s : List ℕ) → AllDigits s 0
 run_none s k h = absurd (omega arith)
 
-pub run_full : (s : List ℕ) (i : ℕ) → i < length s → i ≡ max_digits → AllDigits s i → i ≡ digit_run s
+pub run_stops : (s : List ℕ) (i : ℕ) (r : Bool) → i < min (length s) max_digits → AllDigits s i → r ≡ is_digit (byte s i) → not r ≡ true → i ≡ digit_run s
 unfolding digit_run
-run_full s i h e d =
+run_stops s i r h d e t = omega (arith, first_is (length s) (λ k. not (is_digit (byte s k))) i (omega arith) (ap not (sym e) ∙ t) d)
+
+pub run_ends : (s : List ℕ) (most : ℕ) → most ≡ min (length s) max_digits → AllDigits s most → most ≡ digit_run s
+unfolding digit_run
+run_ends s most e d =
     let p : ℕ → Bool = λ k. not (is_digit (byte s k)) in
-    let far : max_digits ≤ first (length s) p =
-    ⊎_elim (λ l. clash (first_at (length s) p (omega arith)) (d _ (omega arith))) (λ l. l) (below_or (first (length s) p) max_digits) in
-    omega arith
-
-pub run_stops : (s : List ℕ) (i : ℕ) (r : Bool) → i < length s → i ≤ max_digits → AllDigits s i → r ≡ is_digit (byte s i) → not r ≡ true → i ≡ digit_run s
-unfolding digit_run
-run_stops s i r h m d e t = omega (arith, first_is (length s) (λ k. not (is_digit (byte s k))) i h (ap not (sym e) ∙ t) d)
-
-pub run_ends : (s : List ℕ) (i : ℕ) → i ≤ length s → length s ≤ i → i ≤ max_digits → AllDigits s i → i ≡ digit_run s
-unfolding digit_run
-run_ends s i l h m d = omega (arith, first_none (length s) (λ k. not (is_digit (byte s k))) (λ k b. d k (omega arith)))
+    let far : most ≤ first (length s) p =
+    ⊎_elim (λ l. clash (first_at (length s) p (omega arith)) (d _ l)) (λ l. l) (below_or (first (length s) p) most) in
+    omega (arith, first_le (length s) p)
 
 pub run_on : (s : List ℕ) (i : ℕ) (r : Bool) → AllDigits s i → r ≡ is_digit (byte s i) → not r ≡ false → AllDigits s (i + 1)
 run_on s i r d e t k h = ⊎_elim (λ b. d k b) (λ b. ap (λ j. not (is_digit (byte s j))) b ∙ ap not (sym e) ∙ t) (below_suc k i (omega arith))
@@ -82,12 +75,12 @@ module _ (b : ℕ) (r : Bool) (e : r ≡ is_digit b) (t : not r ≡ false) where
   pub digit_fits : Fits w64 (b - digit0)
   digit_fits = record { fits = omega (arith, digit_worth) }
 
-  module _ (i m : ℕ) (l : i ≤ max_digits) (n : i ≡ max_digits → ⊥) (h : m < 256 ^ i) where
+  module _ (i m : ℕ) (l : i < max_digits) (h : m < 256 ^ i) where
     pub run_tenfold : Fits w64 (10 * m)
-    run_tenfold = room_tenfold i max_digits m (below i max_digits l n) (omega arith) h
+    run_tenfold = room_tenfold i max_digits m l (omega arith) h
 
     pub run_next : Fits w64 (10 * m + (b - digit0))
-    run_next = room_next i max_digits m (b - digit0) (below i max_digits l n) (omega arith) h digit_worth
+    run_next = room_next i max_digits m (b - digit0) l (omega arith) h digit_worth
 
     pub run_grows : 10 * m + (b - digit0) < 256 ^ (i + 1)
     run_grows = value_grows i m (b - digit0) h digit_worth
@@ -170,20 +163,20 @@ module _ (w : List ℕ) (sign b : ℕ) (e : sign ≡ sign_bytes w) (f : b ≡ by
         ∙ ap (λ n. value_from 0 (take n (digits w))) size
 
 -- a number is as long as it reaches, and has a digit
-pub broken_short : (w : List ℕ) (reached : ℕ) → reached ≡ reach w → (reached ≡ length w → ⊥) → Broken reached ≡ word_of w
+pub broken_short : (w : List ℕ) (reached : ℕ) → reached ≡ reach w → (reached ≡ length w → ⊥) → Err reached ≡ word_of w
 unfolding word_of is_number
-broken_short w reached e h = rw (ne_eqb (reach w) (length w) (λ f. h (e ∙ f))) (ap Broken e)
+broken_short w reached e h = rw (ne_eqb (reach w) (length w) (λ f. h (e ∙ f))) (ap Err e)
 
-pub broken_bare : (w : List ℕ) (sign reached : ℕ) → sign ≡ sign_bytes w → reached ≡ reach w → reached ≡ length w → reached ≤ sign → Broken reached ≡ word_of w
+pub broken_bare : (w : List ℕ) (sign reached : ℕ) → sign ≡ sign_bytes w → reached ≡ reach w → reached ≡ length w → reached ≤ sign → Err reached ≡ word_of w
 unfolding word_of is_number
-broken_bare w sign reached e r l h = rw (eq-eqb (reach w) (length w) (sym r ∙ l), le-ltb (sign_bytes w) (reach w) (omega (arith, e, r))) (ap Broken r)
+broken_bare w sign reached e r l h = rw (eq-eqb (reach w) (length w) (sym r ∙ l), le-ltb (sign_bytes w) (reach w) (omega (arith, e, r))) (ap Err r)
 
 pub number_is : (w : List ℕ) (sign reached v : ℕ) → sign ≡ sign_bytes w → reached ≡ reach w → reached ≡ length w → sign < reached → v ≡ reached_value w
-    → Number v (eqb sign 1) ≡ word_of w
+    → Ok (record { variable = v; negative = eqb sign 1 }) ≡ word_of w
 unfolding word_of is_number variable_of reached_value
 number_is w sign reached v e r l h d =
     rw (eq-eqb (reach w) (length w) (sym r ∙ l), lt-ltb (sign_bytes w) (reach w) (omega (arith, e, r)))
-    (ap₂ Number
+    (ap₂ (λ v n. Ok (record { variable = v; negative = n }))
     (d ∙ ap (value_from 0) (take_all (reach w - sign_bytes w) (digits w) (omega (arith, r, l, length-drop (sign_bytes w) w))))
     (ap (λ k. eqb k 1) e ∙ signed_is (is_negative w)))
 

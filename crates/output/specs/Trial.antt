@@ -1,15 +1,15 @@
 -- The trial of a "v" line: its numbers are judged from left to right, and each that passes is marked at once in the row of given variables, so
 -- that the row alone tells what was given before. What was marked is taken back where the line is refused.
 -- Assumes nothing.
-use Rattle.std.specs.Prelude.{ℕ, suc, ◌+◌, Bool, true, cond, not, ◌&&◌, List, [], ◌∷◌, eqb, ltb, length, drop}
+use Rattle.std.specs.Prelude.{ℕ, suc, ◌+◌, Bool, true, cond, not, ◌&&◌, List, [], ◌∷◌, eqb, ltb, length, drop, Result, Ok, Err}
 use Rattle.rules.specs.Text.{space}
 use Rattle.rules.specs.Rows.{with_variable}
 use Rattle.rules.specs.Lines.{is_number, is_negative, variable_of, Scan, scan_piece}
+use Rattle.rules.specs.declared.Refusal.{Refusal}
 use Rattle.rules.specs.declared.Verdict.{Verdict}
 use Rattle.rules.specs.declared.Verdict.TheVariants.{Accepted, Refused}
 use Rattle.lent_bytes.specs.Words.{pieces_behind}
-use Rattle.output.specs.declared.numbers.Piece.{Piece}
-use Rattle.output.specs.declared.numbers.Tried.{Tried}
+use Rattle.output.specs.declared.numbers.Stopped.{Stopped}
 
 -- ---- one piece
 
@@ -22,16 +22,16 @@ unfoldable pub piece_scan : (highest : ℕ) (row : List ℕ) (at : ℕ) (closed 
 piece_scan highest row at closed p = scan_piece highest row (record { verdict = Accepted; at = at; closed = closed; named = [] }) p
 
 pub record PieceTrial : Type 0 where
-  pub answer : Piece
+  pub answer : Result Bool Refusal
   pub row : List ℕ
 
-abbrev pub piece_leaves : Piece → List ℕ → PieceTrial
+abbrev pub piece_leaves : Result Bool Refusal → List ℕ → PieceTrial
 piece_leaves answer row = record { answer = answer; row = row }
 
 -- what passes is marked
 abbrev pub piece_trial : Verdict → (closed : Bool) (marked row : List ℕ) → PieceTrial
-piece_trial Accepted closed marked row = piece_leaves (Piece.Taken closed) marked
-piece_trial (Refused why) closed marked row = piece_leaves (Piece.Refused why) row
+piece_trial Accepted closed marked row = piece_leaves (Ok closed) marked
+piece_trial (Refused why) closed marked row = piece_leaves (Err why) row
 
 unfoldable pub try_piece : (highest : ℕ) (row : List ℕ) (at : ℕ) (closed : Bool) → List ℕ → PieceTrial
 try_piece highest row at closed p =
@@ -40,23 +40,23 @@ try_piece highest row at closed p =
 -- ---- the pieces of a line; the gap is where the separator before a piece stands
 
 pub record Trial : Type 0 where
-  pub answer : Tried
+  pub answer : Result Bool Stopped
   pub row : List ℕ
 
-abbrev pub trial_leaves : Tried → List ℕ → Trial
+abbrev pub trial_leaves : Result Bool Stopped → List ℕ → Trial
 trial_leaves answer row = record { answer = answer; row = row }
 
 -- before which gap a trial stopped
-abbrev pub stop_of : Tried → ℕ
-stop_of (Tried.Through closed) = 0
-stop_of (Tried.Stopped why gap) = gap
+abbrev pub stop_of : Result Bool Stopped → ℕ
+stop_of (Ok closed) = 0
+stop_of (Err stopped) = stopped.gap
 
 abbrev pub onward : Verdict → (gap : ℕ) (row : List ℕ) → Trial → Trial
 onward Accepted gap row next = next
-onward (Refused why) gap row next = trial_leaves (Tried.Stopped why gap) row
+onward (Refused why) gap row next = trial_leaves (Err (record { why = why; gap = gap })) row
 
 unfoldable pub trial : (highest : ℕ) (row : List ℕ) (gap : ℕ) (closed : Bool) → List (List ℕ) → Trial
-trial highest row gap closed [] = trial_leaves (Tried.Through closed) row
+trial highest row gap closed [] = trial_leaves (Ok closed) row
 trial highest row gap closed (p ∷ ps) =
     let scan : Scan = piece_scan highest row (suc gap) closed p in
     onward scan.verdict gap row (trial highest (written true row p) (gap + suc (length p)) scan.closed ps)

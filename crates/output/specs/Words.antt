@@ -1,12 +1,11 @@
 -- Words of a line: what their bytes say.
 -- Assumes nothing.
-use Rattle.std.specs.Prelude.{ℕ, ◌-◌, min, cond, not, List, length, take}
+use Rattle.std.specs.Prelude.{ℕ, ◌-◌, min, cond, not, List, length, take, Result, Ok, Err}
 use Rattle.rules.specs.Counting.{first}
 use Rattle.rules.specs.Limits.{max_digits}
 use Rattle.rules.specs.File.{byte}
 use Rattle.rules.specs.Lines.{is_digit, is_negative, sign_bytes, digits, reach, is_number, value_from, variable_of}
-use Rattle.output.specs.declared.words.Word.{Word}
-use Rattle.output.specs.declared.words.Word.TheVariants.{Number, Broken}
+use Rattle.output.specs.declared.words.Number.{Number}
 
 -- how many digits a text begins with, six at most
 unfoldable pub digit_run : List ℕ → ℕ
@@ -17,5 +16,5 @@ unfoldable pub reached_value : List ℕ → ℕ
 reached_value w = value_from 0 (take (reach w - sign_bytes w) (digits w))
 
 -- a number with its sign, or how far a word could be one
-unfoldable pub word_of : List ℕ → Word
-word_of w = cond (is_number w) (Number (variable_of w) (is_negative w)) (Broken (reach w))
+unfoldable pub word_of : List ℕ → Result Number ℕ
+word_of w = cond (is_number w) (Ok (record { variable = variable_of w; negative = is_negative w })) (Err (reach w))

@@ -27,6 +27,7 @@ pub fn begin(reading: Reading) -> Feed
 }
 
 // Whether so many words and bytes are room for the rows of a reading and for a line.
+#[tactic(auto, unfolding(crate::specs::Feeding::room_for))]
 fn has_room(answer: LineAnswer, given: usize, truth: usize, line: usize) -> bool
     ensures { result ≡ room_for answer given truth line }
 {
@@ -39,22 +40,13 @@ fn has_room(answer: LineAnswer, given: usize, truth: usize, line: usize) -> bool
     crate::rows_fit(reading.highest, given, truth)
 }
 
-fn smaller(a: usize, b: usize) -> usize
-    ensures { result ≡ min a b }
-{
-    if b < a {
-        return b;
-    }
-    a
-}
-
 // Bytes of a line go behind those that are held, as far as there is room; how many are held then.
 fn hold(line: &mut [u8], held: usize, part: &[u8]) -> usize
     requires { (held ≤ line_room) × (line_room ≤ length line.old) }
     ensures written { line.new ≡ line_then line.old held part.now }
     ensures behind { result ≡ held_then held (length part.now) }
 {
-    let most = smaller(part.len(), LINE_ROOM - held);
+    let most = part.len().min(LINE_ROOM - held);
     digits::put_text(line, held, &part[..most])
 }
 
@@ -103,9 +95,10 @@ pub fn take_bytes(
             held: state.held,
         };
     }
-    let held = smaller(state.held, LINE_ROOM);
+    let held = state.held.min(LINE_ROOM);
     let mut fed = Feed { answer, held };
     let mut at = 0;
+    // A `while`: the place jumps behind the line that was read.
     while at < bytes.len() {
         let end = lent_bytes::words::line_end(bytes, at);
         let ends = end < bytes.len();
@@ -123,7 +116,7 @@ pub fn finish(state: Feed, given: &mut [u64], truth: &mut [u64], line: &[u8]) ->
     if !has_room(answer, given.len(), truth.len(), line.len()) {
         return LineAnswer::Refused(Refusal::Room);
     }
-    let held = smaller(state.held, LINE_ROOM);
+    let held = state.held.min(LINE_ROOM);
     let LineAnswer::Next(reading) = answer else {
         return answer;
     };

@@ -15,14 +15,12 @@ use rules::{LineAnswer, Phase, Reading, Refusal};
 const MAX_LINE: usize = 4096;
 
 // Whether rows of these lengths have the words that `highest` variables need.
+#[tactic(auto, unfolding(crate::specs::Line::both_fit))]
 fn rows_fit(highest: usize, given: usize, truth: usize) -> bool
     ensures { result ≡ both_fit highest given truth }
 {
     let words = rows::words_for(highest);
-    if given < words {
-        return false;
-    }
-    words <= truth
+    words <= given && words <= truth
 }
 
 // A reading of up to `highest` variables starts: the words needed are set to 0 in both rows.

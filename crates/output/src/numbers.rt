@@ -8,95 +8,88 @@ ghost use Rattle.output.specs.Line.{lent, leaves, by_kind};
 ghost use Rattle.output.specs.Trial.{written, piece_leaves, try_piece, trial_leaves, trial, stop_of, first_gap, number_pieces, rewritten};
 
 use crate::words;
-use crate::words::Word;
+use crate::words::Number;
 use rules::{LineAnswer, Phase, Reading, Refusal};
 
-// A piece is taken, and says whether the model is closed now, or it is refused.
+// Why a piece is refused, and at which place the gap before it stands.
 #[derive(Clone, Copy)]
-pub enum Piece {
-    Taken(bool),
-    Refused(Refusal),
+pub struct Stopped {
+    pub why: Refusal,
+    pub gap: usize,
 }
 
-// All pieces are taken, or one is refused behind the gap at a place.
-#[derive(Clone, Copy)]
-pub enum Tried {
-    Through(bool),
-    Stopped(Refusal, usize),
-}
-
-// A piece is judged, and the variable that it names is marked.
-fn take_piece(highest: usize, closed: bool, given: &mut [u64], piece: &[u8], at: usize) -> Piece
+// A piece is judged, and the variable that it names is marked: whether the model is closed then.
+fn take_piece(
+    highest: usize,
+    closed: bool,
+    given: &mut [u64],
+    piece: &[u8],
+    at: usize,
+) -> Result<bool, Refusal>
     requires { at ≤ max_line + 1 }
     ensures { piece_leaves result given.new ≡ try_piece highest given.old at closed piece.now }
 {
     if piece.len() == 0 {
-        return Piece::Taken(closed);
+        return Ok(closed);
     }
-    match words::word_of(piece) {
-        Word::Broken(reached) => Piece::Refused(Refusal::Grammar(at + reached)),
-        Word::Number(variable, _) => {
-            if closed {
-                return Piece::Refused(Refusal::OutOfPlace(at));
-            }
-            if highest < variable {
-                return Piece::Refused(Refusal::OverN(at));
-            }
-            if variable == 0 {
-                return Piece::Taken(true);
-            }
-            if rows::is_set(given, variable) {
-                return Piece::Refused(Refusal::GivenBefore(at));
-            }
-            rows::set_bit(given, variable, true);
-            Piece::Taken(false)
+    // A match, as the refusal is made of the place and of how far the word reaches.
+    let number = match words::word_of(piece) {
+        Ok(number) => number,
+        Err(reached) => {
+            return Err(Refusal::Grammar(at + reached));
         }
+    };
+    if closed {
+        return Err(Refusal::OutOfPlace(at));
     }
+    if highest < number.variable {
+        return Err(Refusal::OverN(at));
+    }
+    if number.variable == 0 {
+        return Ok(true);
+    }
+    if rows::is_set(given, number.variable) {
+        return Err(Refusal::GivenBefore(at));
+    }
+    rows::set_bit(given, number.variable, true);
+    Ok(false)
 }
 
-// The numbers of a line are tried: those before a refused one stay marked.
-fn try_numbers(highest: usize, given: &mut [u64], line: &[u8]) -> Tried
+// The numbers of a line are tried: those before a refused one stay marked. Whether the model is closed then.
+fn try_numbers(highest: usize, given: &mut [u64], line: &[u8]) -> Result<bool, Stopped>
     requires { length line.now ≤ max_line }
     ensures tried { trial_leaves result given.new ≡ trial highest given.old first_gap false (number_pieces line.now) }
     ensures within { stop_of result ≤ length line.now }
 {
     let mut closed = false;
     let mut gap = 1;
+    // A `while`: the gap jumps to where the word that was read ends.
     while gap < line.len() {
         let at = gap + 1;
         let end = lent_bytes::words::word_end(line, at);
+        // Kept as a match: tried `map_err` and `?`, the proof of the early return did not close.
         match take_piece(highest, closed, given, &line[at..end], at) {
-            Piece::Refused(why) => {
-                return Tried::Stopped(why, gap);
-            }
-            Piece::Taken(after) => {
+            Ok(after) => {
                 closed = after;
+            }
+            Err(why) => {
+                return Err(Stopped { why, gap });
             }
         }
         gap = end;
     }
-    Tried::Through(closed)
-}
-
-// The bit that a number's sign asks for, where signs count.
-fn bit_for(signs: bool, negative: bool) -> bool
-    ensures { result ≡ (signs && not negative) }
-{
-    if signs {
-        return !negative;
-    }
-    false
+    Ok(closed)
 }
 
 // The bit of the variable that a word names, if it names one, is written: its sign, or 0.
 fn write_word(row: &mut [u64], word: &[u8], signs: bool)
     ensures { row.new ≡ written (signs && not (is_negative word.now)) row.old word.now }
 {
-    let Word::Number(variable, negative) = words::word_of(word) else {
+    let Ok(Number { variable, negative }) = words::word_of(word) else {
         return;
     };
     if variable != 0 {
-        rows::set_bit(row, variable, bit_for(signs, negative));
+        rows::set_bit(row, variable, signs & !negative);
     }
 }
 
@@ -106,6 +99,7 @@ fn write_numbers(row: &mut [u64], line: &[u8], stop: usize, signs: bool)
     ensures { row.new ≡ rewritten signs stop row.old first_gap (number_pieces line.now) }
 {
     let mut gap = 1;
+    // A `while`: the gap jumps to where the word that was read ends.
     while gap < stop {
         let at = gap + 1;
         let end = lent_bytes::words::word_end(line, at);
@@ -117,13 +111,7 @@ fn write_numbers(row: &mut [u64], line: &[u8], stop: usize, signs: bool)
 fn awaits_numbers(phase: Phase) -> bool
     ensures { result ≡ awaits_numbers phase }
 {
-    match phase {
-        Phase::NoStatus => false,
-        Phase::ModelOpen => true,
-        Phase::ModelClosed => false,
-        Phase::SaidUnsatisfiable => false,
-        Phase::SaidUnknown => false,
-    }
+    matches!(phase, Phase::ModelOpen)
 }
 
 fn phase_of(closed: bool) -> Phase
@@ -154,11 +142,11 @@ pub fn numbers_line(
         return LineAnswer::Refused(Refusal::Grammar(1));
     }
     match try_numbers(highest, given, line) {
-        Tried::Stopped(why, stop) => {
-            write_numbers(given, line, stop, false);
-            LineAnswer::Refused(why)
+        Err(stopped) => {
+            write_numbers(given, line, stopped.gap, false);
+            LineAnswer::Refused(stopped.why)
         }
-        Tried::Through(closed) => {
+        Ok(closed) => {
             write_numbers(truth, line, line.len(), true);
             let after = phase_of(closed);
             LineAnswer::Next(Reading {

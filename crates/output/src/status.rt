@@ -20,22 +20,7 @@ pub fn comment_line(reading: Reading, line: &[u8]) -> LineAnswer
 fn awaits_status(phase: Phase) -> bool
     ensures { result ≡ awaits_status phase }
 {
-    match phase {
-        Phase::NoStatus => true,
-        Phase::ModelOpen => false,
-        Phase::ModelClosed => false,
-        Phase::SaidUnsatisfiable => false,
-        Phase::SaidUnknown => false,
-    }
-}
-
-fn larger(a: usize, b: usize) -> usize
-    ensures { result ≡ max a b }
-{
-    if a < b {
-        return b;
-    }
-    a
+    matches!(phase, Phase::NoStatus)
 }
 
 // A status line says how the model goes on.
@@ -68,12 +53,8 @@ pub fn status_line(reading: Reading, line: &[u8]) -> LineAnswer
             phase: Phase::SaidUnknown,
         });
     }
-    let reached = larger(
-        texts::shared(line, satisfiable),
-        larger(
-            texts::shared(line, unsatisfiable),
-            texts::shared(line, unknown),
-        ),
-    );
+    let reached = texts::shared(line, satisfiable)
+        .max(texts::shared(line, unsatisfiable))
+        .max(texts::shared(line, unknown));
     LineAnswer::Refused(Refusal::Grammar(reached))
 }

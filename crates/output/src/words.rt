@@ -8,11 +8,11 @@ ghost use Rattle.output.specs.Words.{digit_run, reached_value, word_of};
 
 const MAX_DIGITS: usize = 6;
 
-// A number that a word is, 0 for the closing one, or how far the word could be a number.
+// The variable that a word names, 0 for the closing number, and whether it is negated.
 #[derive(Clone, Copy)]
-pub enum Word {
-    Number(usize, bool),
-    Broken(usize),
+pub struct Number {
+    pub variable: usize,
+    pub negative: bool,
 }
 
 // So many first bytes, and the value of the digits among them.
@@ -26,10 +26,7 @@ struct Run {
 pub fn stands_alone(line: &[u8]) -> bool
     ensures { result ≡ (eqb (length line.now) 1 || eqb (byte line.now 1) space) }
 {
-    if line.len() == 1 {
-        return true;
-    }
-    lent_bytes::byte_at(line, 1) == b' '
+    line.len() == 1 || lent_bytes::byte_at(line, 1) == b' '
 }
 
 // 1 where a word begins with a minus.
@@ -47,20 +44,16 @@ fn digit_run(bytes: &[u8]) -> Run
     ensures digits { (result.bytes ≡ digit_run bytes.now) × (result.bytes ≤ max_digits) }
     ensures value { result.value ≡ value_from 0 (take result.bytes bytes.now) }
 {
+    let most = bytes.len().min(MAX_DIGITS);
     let mut value = 0;
-    let mut i = 0;
-    while i < bytes.len() {
-        if i == MAX_DIGITS {
-            return Run { bytes: i, value };
-        }
+    for i in 0..most {
         let b = bytes[i];
         if !lent_bytes::words::is_digit(b) {
             return Run { bytes: i, value };
         }
         value = 10 * value + (b - b'0') as usize;
-        i += 1;
     }
-    Run { bytes: i, value }
+    Run { bytes: most, value }
 }
 
 // The first bytes of a word that can begin a number.
@@ -79,18 +72,21 @@ fn reach_of(word: &[u8], sign: usize) -> Run
     }
 }
 
-// A word as a number.
-pub fn word_of(word: &[u8]) -> Word
+// A word as a number, or how many of its first bytes can begin one.
+pub fn word_of(word: &[u8]) -> Result<Number, usize>
     ensures { result ≡ word_of word.now }
 {
     let sign = sign_bytes(word);
     let run = reach_of(word, sign);
     let reached = run.bytes;
     if reached != word.len() {
-        return Word::Broken(reached);
+        return Err(reached);
     }
     if reached <= sign {
-        return Word::Broken(reached);
+        return Err(reached);
     }
-    Word::Number(run.value, sign == 1)
+    Ok(Number {
+        variable: run.value,
+        negative: sign == 1,
+    })
 }

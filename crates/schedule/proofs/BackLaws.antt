@@ -4,7 +4,6 @@ use mathlib.Core.Path.{◌≡◌, refl, sym, ap, ◌∙◌}
 use mathlib.Core.Bool.{Bool, true, false, not, ◌&&◌}
 use mathlib.Core.List.{List, [], ◌∷◌, ◌++◌, append_assoc}
 use Prim.Native.Nat.{ℕ, ◌≤◌, ◌<◌}
-use native.Mathlib.Omega.{arith}
 use borrow.Author.Tests.{le-leb, lt-leb, leb-true}
 use lib.Dec.{leb}
 use lib.ListN.{length, replicate}
@@ -156,20 +155,6 @@ module _ (words given truth k entries : ℕ) where
 
     pub entries_fit : k ≤ entries
     entries_fit = leb-true k entries (and_right (leb words given && leb words truth) _ each)
-
-  module _ (w : ℕ) (ew : w ≡ words) where
-    pub given_short : given < w → false ≡ fits words given truth k entries
-    unfolding fits
-    given_short l = rw (lt-leb words given (omega arith))
-
-    module _ (lg : w ≤ given) where
-      pub truth_short : truth < w → false ≡ fits words given truth k entries
-      unfolding fits
-      truth_short l = rw (le-leb words given (omega arith), lt-leb words truth (omega arith))
-
-      pub entries_left : w ≤ truth → leb k entries ≡ fits words given truth k entries
-      unfolding fits
-      entries_left l = rw (le-leb words given (omega arith), le-leb words truth (omega arith))
 
 pub can_be_carried : (T : Task) (k : ℕ) (entries : List ℕ) (v : Verdict) → v ≡ judge (schedule_rules T k entries) → v ≡ Accepted → CarriedOut T k entries
 can_be_carried T k entries v ev f = carried_out T k entries (sym ev ∙ f)

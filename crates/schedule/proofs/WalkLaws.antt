@@ -7,9 +7,12 @@ use Prim.Native.Nat.{ℕ, zero, suc, ◌+◌, ◌-◌, ◌≤◌, ◌<◌}
 use native.Mathlib.Omega.{arith}
 use native.Mathlib.Numerals.{add-one}
 use borrow.Author.Tests.{ltb-false, lt-ltb, le-ltb}
-use lib.Dec.{ltb}
-use lib.ListN.{length, take, drop, length-drop}
-use lib.Seq.{take_all, drop-drop}
+use lib.ListN.{length, get_or, take, drop, length-drop}
+use lib.Seq.{take_all, drop-drop, length-take-le}
+use Rattle.std.specs.Prelude.{Option, None, Some}
+use Rattle.std.specs.Option.{MatchOption, unwrap_or}
+use Rattle.std.specs.List.{AllWithin, HoldsAt}
+use Rattle.std.proofs.lemmas.List.{get_or-take}
 use denote.Ref.{Bor}
 use Rattle.rules.specs.Counting.{first, every}
 use Rattle.rules.specs.Answers.{judge}
@@ -18,7 +21,7 @@ use Rattle.rules.specs.File.{body_start, body_length, body, rests, action_in, ta
 use Rattle.rules.specs.Walk.{State, start_state, holds, set_pairs, entry, entry_applies, after_entry, state_at, schedule_rules}
 use Rattle.rules.specs.declared.Refusal.TheVariants.{EntryOverA, DoesNotApply, GoalUnmet}
 use Rattle.rules.specs.declared.Verdict.TheVariants.{Accepted, Refused}
-use Rattle.rules.proofs.Counting.{first_le, first_before}
+use Rattle.rules.proofs.Counting.{first_le, first_before, first_none, first_is}
 use Rattle.rules.proofs.Judging.{judge_nil}
 use Rattle.rules.proofs.Loops.{none_yet, none_more, found_at, none_at_all, judge_found, judge_none}
 use Rattle.rules.proofs.Valid.{WellFormed}
@@ -84,21 +87,29 @@ module _ (T : Task) (s : List ℕ) where
 
 -- ---- entries above the highest that they may be
 
-module _ (entries : List ℕ) (highest : ℕ) where
-  pub over_none : first 0 (over entries highest) ≡ 0
-  over_none = none_yet (over entries highest)
+module _ (entries : List ℕ) (highest k : ℕ) (enough : k ≤ length entries) where
+  entry_there : (s : ℕ) → s < k → get_or (take k entries) s 0 ≡ entry entries s
+  entry_there s l = get_or-take k entries s 0 l
 
-  module _ (s : ℕ) (h : first s (over entries highest) ≡ s) where
-    pub over_more : (e : ℕ) → e ≡ entry entries s → e ≤ highest → first (s + 1) (over entries highest) ≡ s + 1
-    unfolding over
-    over_more e ee l = none_more (over entries highest) s (ltb highest e) h (ap (ltb highest) ee) (le-ltb highest e l)
+  known_before : (n : ℕ) → n ≤ k → AllWithin (λ e. e ≤ highest) (take k entries) 0 n → (s : ℕ) → s < n → over entries highest s ≡ false
+  unfolding over
+  known_before n l a s h = le-ltb highest (entry entries s) (omega (arith, a s 0 (omega arith) h, entry_there s (omega arith)))
 
-    pub over_here : (e k : ℕ) → e ≡ entry entries s → s < k → highest < e → s ≡ first k (over entries highest)
-    unfolding over
-    over_here e k ee l o = found_at (over entries highest) k s (ltb highest e) h l (ap (ltb highest) ee) (lt-ltb highest e o)
+  over_first : (r : Option ℕ) → MatchOption r (AllWithin (λ e. e ≤ highest) (take k entries) 0 (length (take k entries)))
+      (λ i. (i < length (take k entries)) × HoldsAt (λ e. highest < e) (take k entries) i × AllWithin (λ e. e ≤ highest) (take k entries) 0 i)
+      → unwrap_or r k ≡ first k (over entries highest)
+  unfolding over
+  over_first None m = sym (first_none k (over entries highest) (known_before k (omega arith) (rw (length-take-le k entries enough) at m)))
+  over_first (Some i) m =
+      let l : i < k = omega (arith, m.0, length-take-le k entries enough) in
+      sym (first_is k (over entries highest) i l
+      (lt-ltb highest (entry entries i) (omega (arith, m.1 0, entry_there i l)))
+      (known_before i (omega arith) m.2))
 
-    pub over_nowhere : (k : ℕ) → s ≤ k → k ≤ s → s ≡ first k (over entries highest)
-    over_nowhere k l g = none_at_all (over entries highest) k s h l g
+  pub over_found : (n : ℕ) (r : Option ℕ) → n ≡ unwrap_or r k → MatchOption r (AllWithin (λ e. e ≤ highest) (take k entries) 0 (length (take k entries)))
+      (λ i. (i < length (take k entries)) × HoldsAt (λ e. highest < e) (take k entries) i × AllWithin (λ e. e ≤ highest) (take k entries) 0 i)
+      → n ≡ first k (over entries highest)
+  over_found n r e m = e ∙ over_first r m
 
 -- ---- the whole schedule
 

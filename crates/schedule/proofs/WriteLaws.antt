@@ -1,12 +1,13 @@
 -- The ways out of the functions that write a schedule's bits into a lent row.
 -- Assumes nothing.
-use mathlib.Core.Path.{◌≡◌, refl, ◌∙◌}
+use mathlib.Core.Path.{◌≡◌, refl, ◌∙◌, ap₂}
 use mathlib.Core.Bool.{true}
 use mathlib.Core.List.{List}
 use Prim.Native.Nat.{ℕ, zero, suc, ◌+◌, ◌-◌, ◌≤◌, ◌<◌}
 use native.Mathlib.Omega.{arith}
 use native.Mathlib.Numerals.{add-one}
-use lib.ListN.{length, get_or}
+use lib.ListN.{length, get_or, take, length-take}
+use Rattle.std.proofs.lemmas.List.{get_or-take}
 use Rattle.rules.specs.Task.{Task, n, d, A}
 use Rattle.rules.specs.Problem.{Problem}
 use Rattle.rules.specs.Numbering.{value_number, action_number}
@@ -53,19 +54,24 @@ module _ (P : Problem) (s : ℕ) (σ : State) (row₀ : List ℕ) where
   unfolding values_set
   values_none = refl
 
-  pub values_more : (x : ℕ) (row row' : List ℕ) → row ≡ values_set P s σ x row₀ → row' ≡ with_variable row (value_number P s x (get_or σ x 0)) true
-      → row' ≡ values_set P s σ (x + 1) row₀
+  pub values_more : (x m : ℕ) (row row' : List ℕ) → x < length (take m σ) → m ≤ length σ → row ≡ values_set P s σ x row₀
+      → row' ≡ with_variable row (value_number P s x (get_or (take m σ) x 0)) true → row' ≡ values_set P s σ (x + 1) row₀
   unfolding values_set
-  values_more x row row' h e = e ∙ rw (h, add-one)
+  values_more x m row row' l w h e =
+      e ∙ ap₂ (λ r v. with_variable r (value_number P s x v) true) h (get_or-take m σ x 0 (omega (arith, length-take m σ))) ∙ rw (add-one x) refl
 
-  pub values_done : (x m : ℕ) (row : List ℕ) → row ≡ values_set P s σ x row₀ → x ≤ m → m ≤ x → m ≡ n P.task → row ≡ values_set P s σ (n P.task) row₀
-  values_done x m row h l g em = let e : x ≡ n P.task = omega arith in rw e at h
+  pub values_done : (x m : ℕ) (row : List ℕ) → row ≡ values_set P s σ x row₀ → x ≡ length (take m σ) → m ≤ length σ → m ≡ n P.task → row ≡ values_set P s σ (n P.task) row₀
+  values_done x m row h l w em = let e : x ≡ n P.task = omega (arith, length-take m σ) in rw e at h
 
-pub value_inside : (T : Task) (σ : State) (x m : ℕ) → Inside T σ → m ≡ n T → x < m → get_or σ x 0 < d T x
-value_inside T σ x m i em h = i.inside x (omega arith)
+pub values_long : (T : Task) (σ : State) (m : ℕ) → Inside T σ → m ≡ n T → m ≤ length σ
+values_long T σ m i em = omega (arith, i.long)
 
-pub value_there : (T : Task) (σ : State) (x m : ℕ) → Inside T σ → m ≡ n T → x < m → x < length σ
-value_there T σ x m i em h = omega (arith, i.long)
+pub value_known : (T : Task) (σ : State) (x m : ℕ) → Inside T σ → m ≡ n T → x < length (take m σ) → x < n T
+value_known T σ x m i em h = omega (arith, length-take m σ)
+
+pub value_inside : (T : Task) (σ : State) (x m : ℕ) → Inside T σ → m ≡ n T → x < length (take m σ) → get_or (take m σ) x 0 < d T x
+value_inside T σ x m i em h =
+    let l : x < n T = value_known T σ x m i em h in omega (arith, i.inside x l, get_or-take m σ x 0 (omega arith))
 
 -- ---- one entry; f is the formula number of its action, as it was asked for by b
 
@@ -79,11 +85,6 @@ module _ (P : Problem) (s b f : ℕ) (ef : f ≡ action_number P s b) where
   entry_written (suc a) number row row' eb en er z = let e : b ≡ a = omega arith in er ∙ rw (en, ef, e)
 
 -- ---- step by step
-
-pub step_written : (P : Problem) (s e : ℕ) (σ : State) (row row₁ row₂ : List ℕ) → row₁ ≡ values_set P s σ (n P.task) row → row₂ ≡ entry_set P s e row₁
-    → row₂ ≡ step_set P s e σ row
-unfolding step_set
-step_written P s e σ row row₁ row₂ e₁ e₂ = e₂ ∙ rw e₁
 
 module _ (P : Problem) (entries row₀ : List ℕ) where
   pub steps_none : row₀ ≡ steps_set P entries 0 row₀

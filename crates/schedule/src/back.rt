@@ -25,6 +25,7 @@ fn needed_words(file: &[u8], index: &[u16], horizon: usize) -> usize
 }
 
 // Enough is lent: words for both rows, and an entry for each step.
+#[tactic(auto, unfolding(crate::specs::Written::fits))]
 fn enough(
     file: &[u8],
     index: &[u16],
@@ -37,13 +38,7 @@ fn enough(
     ensures { result ≡ fits (words_for (N (problem_of file.now horizon))) given truth horizon entries }
 {
     let words = needed_words(file, index, horizon);
-    if given < words {
-        return false;
-    }
-    if truth < words {
-        return false;
-    }
-    horizon <= entries
+    words <= given && words <= truth && horizon <= entries
 }
 
 // All N variables given.

@@ -46,15 +46,10 @@ fn first_over(entries: &[u32], horizon: usize, highest: usize) -> usize
     requires { horizon ≤ length entries.now }
     ensures { result ≡ first horizon (over entries.now highest) }
 {
-    let mut s = 0;
-    while s < horizon {
-        let e = entry_at(entries, s);
-        if highest < e {
-            return s;
-        }
-        s += 1;
-    }
-    s
+    entries[..horizon]
+        .iter()
+        .position(|&e| highest < e as usize)
+        .unwrap_or(horizon)
 }
 
 // The action of an entry applies, if there is one.
@@ -94,14 +89,12 @@ pub(crate) fn schedule_verdict(
         return Verdict::Refused(Refusal::EntryOverA(unknown + 1));
     }
     let mut state = start_state(file);
-    let mut s = 0;
-    while s < horizon {
+    for s in 0..horizon {
         let e = entry_at(entries, s);
         if !entry_applies(file, index, e, &state.values) {
             return Verdict::Refused(Refusal::DoesNotApply(s + 1));
         }
         state = after_entry(file, index, e, state);
-        s += 1;
     }
     let i = walk::unmet(&state.values, row_body(file, 2));
     if i < goals(file) {

@@ -19,10 +19,8 @@ use task::numbering::{action_number, nth_action, number_of, value_number, value_
 pub(crate) fn set_all(row: &mut [u64], m: usize)
     ensures { row.new ≡ all_set m row.old }
 {
-    let mut i = 0;
-    while i < m {
-        i += 1;
-        set_bit(row, i, true);
+    for i in 0..m {
+        set_bit(row, i + 1, true);
     }
 }
 
@@ -41,10 +39,8 @@ fn set_values(file: &[u8], index: &[u16], step: usize, values: &[u8], row: &mut 
     ensures { row.new ≡ values_set (at_any_horizon file.now) step values.now (n (task_of file.now)) row.old }
 {
     let count = variables(file);
-    let mut x = 0;
-    while x < count {
-        set_value(file, index, step, x, values[x] as usize, row);
-        x += 1;
+    for (x, &value) in values[..count].iter().enumerate() {
+        set_value(file, index, step, x, value as usize, row);
     }
 }
 
@@ -61,6 +57,7 @@ fn set_entry(file: &[u8], index: &[u16], step: usize, e: usize, row: &mut [u64])
 }
 
 // All that is true at a step before the last: the values of its state, and its action.
+#[tactic(auto, unfolding(crate::specs::Written::step_set))]
 fn set_step(file: &[u8], index: &[u16], step: usize, e: usize, values: &[u8], row: &mut [u64])
     requires { Indexed file.now index.now × (step ≤ max_horizon) × (e ≤ actionCount (task_of file.now)) × Inside (task_of file.now) values.now }
     ensures { row.new ≡ step_set (at_any_horizon file.now) step e values.now row.old }
@@ -75,12 +72,10 @@ pub(crate) fn set_true(file: &[u8], index: &[u16], horizon: usize, entries: &[u3
     ensures { row.new ≡ all_true_set (at_any_horizon file.now) entries.now horizon row.old }
 {
     let mut state = start_state(file);
-    let mut s = 0;
-    while s < horizon {
+    for s in 0..horizon {
         let e = entry_at(entries, s);
         set_step(file, index, s, e, &state.values, row);
         state = after_entry(file, index, e, state);
-        s += 1;
     }
     set_values(file, index, horizon, &state.values, row);
 }

@@ -46,14 +46,12 @@ fn take_parts(
 {
     let mut part = io::large_buffer();
     let mut fed = state;
-    let mut i = 0;
-    while i < MOST_PARTS {
+    for _ in 0..MOST_PARTS {
         let n = read_part(&mut part);
         if n == 0 {
             return fed;
         }
         fed = take_bytes(fed, sizes, start, goal, actions, line, &part[..n]);
-        i += 1;
     }
     fed
 }

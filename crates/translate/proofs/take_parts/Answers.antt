@@ -3,8 +3,8 @@ use Rattle.translate.proofs.Prints.{some_none, some_more, some_few, part_of}
 use borrow.Author.Rules.{rules}
 use Rattle.translate.proofs.take_parts.Goals as goal
 
-pub loop-i-init : goal.loop-i-init
-loop-i-init c = search (rules, some_none)
+pub loop-init : goal.loop-init
+loop-init c = search (rules, some_none)
 
 pub returns-then-n-eq0 : goal.returns-then-n-eq0
 returns-then-n-eq0 c = search (rules, some_few)
@@ -12,8 +12,8 @@ returns-then-n-eq0 c = search (rules, some_few)
 pub slice_bounds-take_bytes-end : goal.slice_bounds-take_bytes-end
 slice_bounds-take_bytes-end c = part_of _ _ (search rules)
 
-pub loop-i-preserved : goal.loop-i-preserved
-loop-i-preserved c = (search (rules, some_more), search rules, search rules, search rules, search rules, search rules, search rules, search rules)
+pub loop-preserved : goal.loop-preserved
+loop-preserved c = (search (rules, some_more), search rules, search rules, search rules, search rules, search rules, search rules)
 
 pub returns : goal.returns
 returns c = search (rules, some_few)

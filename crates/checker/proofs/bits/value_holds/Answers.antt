@@ -1,11 +1,8 @@
 -- `value_holds` meets its contract.
 -- Assumes nothing.
-use Rattle.checker.proofs.Asked.{inside_value, holds_same}
+use Rattle.checker.proofs.Asked.{inside_value}
 use borrow.Author.Rules.{rules}
 use Rattle.checker.proofs.bits.value_holds.Goals as goal
 
 pub pair_holds-requires : goal.pair_holds-requires
 pair_holds-requires c = search (rules, inside_value)
-
-pub returns : goal.returns
-returns c = search (rules, holds_same)

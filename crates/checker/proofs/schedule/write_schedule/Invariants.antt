@@ -2,7 +2,6 @@
 -- Assumes nothing.
 use mathlib.Core.Path.{◌≡◌}
 use mathlib.Core.List.{◌++◌}
-use Prim.Native.Nat.{◌≤◌, ◌-◌}
 use lib.ListN.{length, drop}
 use Rattle.rules.specs.Counting.{table}
 use Rattle.rules.specs.Readings.{entry_of}
@@ -12,7 +11,4 @@ use Rattle.rows.specs.Lent.{lent}
 use Rattle.checker.proofs.schedule.write_schedule.Given as goal
 
 abbrev pub invariant-loop-step : goal.invariant-loop-step
-invariant-loop-step l = (l.step ≤ l.horizon) × (length l.entries ≡ length l.initial.entries) × (l.entries ≡ table l.step (entry_of (at_any_horizon l.file) (model_in (lent l.given l.truth))) ++ drop l.step l.initial.entries)
-
-abbrev pub decreases-loop-step : goal.decreases-loop-step
-decreases-loop-step l = l.horizon - l.step
+invariant-loop-step l = (length l.entry-items ≡ length l.initial.entry-items) × (l.entry-items ≡ table l.step (entry_of (at_any_horizon l.file) (model_in (lent l.given l.truth))) ++ drop l.step l.initial.entry-items)

@@ -1,14 +1,9 @@
 -- `all_clauses` meets its contract. The loop's invariant: so many clauses stand before the family.
 -- Assumes nothing.
 use mathlib.Core.Path.{◌≡◌}
-use Prim.Native.Nat.{◌≤◌, ◌-◌}
 use Rattle.rules.specs.File.{task_of}
 use Rattle.rules.proofs.ByNumber.{clauses_before}
-use Rattle.checker.specs.Order.{family_count}
 use Rattle.checker.proofs.search.all_clauses.Given as goal
 
 abbrev pub invariant-loop-family : goal.invariant-loop-family
-invariant-loop-family l = (l.family ≤ family_count) × (l.count ≡ clauses_before (task_of l.file) l.horizon l.family)
-
-abbrev pub decreases-loop-family : goal.decreases-loop-family
-decreases-loop-family l = family_count - l.family
+invariant-loop-family l = (l.count ≡ clauses_before (task_of l.file) l.horizon l.family-index)

@@ -1,12 +1,8 @@
 -- `in_family` meets its contract. The loop's invariant: the search has come to the step, and found nothing unmet before it.
 -- Assumes nothing.
-use Prim.Native.Nat.{◌≤◌, ◌-◌}
 use Rattle.rows.specs.Lent.{lent}
-use Rattle.checker.specs.Order.{Reached}
+use Rattle.checker.specs.Order.{family_number, Reached}
 use Rattle.checker.proofs.search.in_family.Given as goal
 
 abbrev pub invariant-loop-step : goal.invariant-loop-step
-invariant-loop-step l = (l.step ≤ l.steps) × Reached l.file l.index (lent l.given l.truth) l.horizon l.family l.step 0 l.at
-
-abbrev pub decreases-loop-step : goal.decreases-loop-step
-decreases-loop-step l = l.steps - l.step
+invariant-loop-step l = Reached l.file l.index (lent l.given l.truth) l.horizon (family_number l.family) l.step 0 l.at

@@ -1,5 +1,5 @@
 -- Assumes nothing.
-use Rattle.checker.proofs.Moving.{come_here, item_fits, item_found, item_passed, item_there, items_done}
+use Rattle.checker.proofs.Moving.{family_below, come_here, item_fits, item_found, item_passed, item_there, items_done}
 use borrow.Author.Rules.{rules}
 use Rattle.checker.proofs.search.in_step.Goals as goal
 
@@ -7,16 +7,16 @@ pub clauses_of-requires : goal.clauses_of-requires
 clauses_of-requires c = search (rules, item_there)
 
 pub overflow_add-next : goal.overflow_add-next
-overflow_add-next c = search (rules, item_fits)
+overflow_add-next c = search (rules, item_fits, family_below)
 
 pub in_item-c-requires : goal.in_item-c-requires
-in_item-c-requires c = search (rules, come_here)
+in_item-c-requires c = search (rules, come_here, family_below)
 
 pub returns-then-c-next : goal.returns-then-c-next
-returns-then-c-next c = search (rules, item_found)
+returns-then-c-next c = search (rules, item_found, family_below)
 
 pub loop-i-preserved : goal.loop-i-preserved
-loop-i-preserved c = search (rules, item_passed)
+loop-i-preserved c = search (rules, item_passed, family_below)
 
 pub returns : goal.returns
-returns c = search (rules, items_done)
+returns c = search (rules, items_done, family_below)

@@ -1,12 +1,8 @@
 -- `lowest_unmet` meets its contract. The loop's invariant: the search has come to the family, and found nothing unmet before it.
 -- Assumes nothing.
-use Prim.Native.Nat.{◌≤◌, ◌-◌}
 use Rattle.rows.specs.Lent.{lent}
-use Rattle.checker.specs.Order.{Reached, family_count}
+use Rattle.checker.specs.Order.{Reached}
 use Rattle.checker.proofs.search.lowest_unmet.Given as goal
 
 abbrev pub invariant-loop-family : goal.invariant-loop-family
-invariant-loop-family l = (l.family ≤ family_count) × Reached l.file l.index (lent l.given l.truth) l.horizon l.family 0 0 l.at
-
-abbrev pub decreases-loop-family : goal.decreases-loop-family
-decreases-loop-family l = family_count - l.family
+invariant-loop-family l = Reached l.file l.index (lent l.given l.truth) l.horizon l.family-index 0 0 l.at

@@ -4,35 +4,35 @@ use Rattle.checker.proofs.Widths.{few_variables, few_actions, step_goals, step_v
 use borrow.Author.Rules.{rules}
 use Rattle.checker.proofs.sizes.step_clauses.Goals as goal
 
-pub returns-then-family-eq-GOAL_PAIRS : goal.returns-then-family-eq-GOAL_PAIRS
-returns-then-family-eq-GOAL_PAIRS c = search (rules, step_goals)
+pub returns-in-StartValues : goal.returns-in-StartValues
+returns-in-StartValues c = search (rules, step_variables)
 
-pub returns-then-family-lt-TWO_VALUES : goal.returns-then-family-lt-TWO_VALUES
-returns-then-family-lt-TWO_VALUES c = search (rules, step_variables)
+pub returns-in-GoalPairs : goal.returns-in-GoalPairs
+returns-in-GoalPairs c = search (rules, step_goals)
 
 pub value_pairs_before-requires : goal.value_pairs_before-requires
 value_pairs_before-requires c = search (rules, few_variables)
 
-pub returns-then-family-eq-TWO_VALUES : goal.returns-then-family-eq-TWO_VALUES
-returns-then-family-eq-TWO_VALUES c = search (rules, step_values)
+pub returns-in-TwoValues : goal.returns-in-TwoValues
+returns-in-TwoValues c = search (rules, step_values)
 
 pub preconditions_before-requires : goal.preconditions_before-requires
 preconditions_before-requires c = search (rules, few_actions)
 
-pub returns-then-family-eq-PRECONDITIONS_HOLD : goal.returns-then-family-eq-PRECONDITIONS_HOLD
-returns-then-family-eq-PRECONDITIONS_HOLD c = search (rules, step_preconditions)
+pub returns-in-PreconditionsHold : goal.returns-in-PreconditionsHold
+returns-in-PreconditionsHold c = search (rules, step_preconditions)
 
 pub effects_before-requires : goal.effects_before-requires
 effects_before-requires c = search (rules, few_actions)
 
-pub returns-then-family-eq-EFFECTS_HOLD : goal.returns-then-family-eq-EFFECTS_HOLD
-returns-then-family-eq-EFFECTS_HOLD c = search (rules, step_effects)
+pub returns-in-EffectsHold : goal.returns-in-EffectsHold
+returns-in-EffectsHold c = search (rules, step_effects)
 
-pub returns-then-family-eq-VALUES_STAY : goal.returns-then-family-eq-VALUES_STAY
-returns-then-family-eq-VALUES_STAY c = search (rules, step_stay)
+pub returns-in-ValuesStay : goal.returns-in-ValuesStay
+returns-in-ValuesStay c = search (rules, step_stay)
 
 pub pairs_below-requires : goal.pairs_below-requires
 pairs_below-requires c = search (rules, few_actions)
 
-pub returns : goal.returns
-returns c = search (rules, step_actions)
+pub returns-in-TwoActions : goal.returns-in-TwoActions
+returns-in-TwoActions c = search (rules, step_actions)

@@ -1,13 +1,9 @@
 -- `gives` meets its contract. The loop's invariant: none of the first i effects is x = v.
 -- Assumes nothing.
 use mathlib.Core.Path.{◌≡◌}
-use Prim.Native.Nat.{◌-◌}
 use Rattle.rules.specs.Counting.{first}
 use Rattle.checker.specs.Staying.{effect_is}
 use Rattle.checker.proofs.stays.gives.Given as goal
 
 abbrev pub invariant-loop-i : goal.invariant-loop-i
 invariant-loop-i l = first l.i (effect_is l.file l.a l.x l.v) ≡ l.i
-
-abbrev pub decreases-loop-i : goal.decreases-loop-i
-decreases-loop-i l = l.count - l.i

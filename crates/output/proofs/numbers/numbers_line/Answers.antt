@@ -13,8 +13,8 @@ returns-then-not-stands_alone c = search (rules, numbers_apart)
 pub write_numbers-requires : goal.write_numbers-requires
 write_numbers-requires c = search (rules, stop_within)
 
-pub returns-in-Stopped : goal.returns-in-Stopped
-returns-in-Stopped c = search (rules, numbers_stopped)
+pub returns-in-Err : goal.returns-in-Err
+returns-in-Err c = search (rules, numbers_stopped)
 
-pub returns-in-Through : goal.returns-in-Through
-returns-in-Through c = search (rules, numbers_through)
+pub returns-in-Ok : goal.returns-in-Ok
+returns-in-Ok c = search (rules, numbers_through)

@@ -13,17 +13,17 @@ overflow_add-result c = search (rules, reached_fits)
 pub returns-then-closed : goal.returns-then-closed
 returns-then-closed c = search (rules, piece_closed)
 
-pub returns-then-highest-variable : goal.returns-then-highest-variable
-returns-then-highest-variable c = search (rules, piece_over)
+pub returns-then-highest-number : goal.returns-then-highest-number
+returns-then-highest-number c = search (rules, piece_over)
 
-pub returns-then-variable-eq0 : goal.returns-then-variable-eq0
-returns-then-variable-eq0 c = search (rules, piece_zero)
+pub returns-then-number-eq0 : goal.returns-then-number-eq0
+returns-then-number-eq0 c = search (rules, piece_zero)
 
 pub returns-then-is_set : goal.returns-then-is_set
 returns-then-is_set c = search (rules, piece_before)
 
-pub returns-in-Broken : goal.returns-in-Broken
-returns-in-Broken c = search (rules, piece_broken)
+pub returns-in-Err : goal.returns-in-Err
+returns-in-Err c = search (rules, piece_broken)
 
-pub returns-else-is_set : goal.returns-else-is_set
-returns-else-is_set c = search (rules, piece_new)
+pub returns : goal.returns
+returns c = search (rules, piece_new)

@@ -6,8 +6,8 @@ use Rattle.output.proofs.numbers.try_numbers.Goals as goal
 pub loop-gap-init : goal.loop-gap-init
 loop-gap-init c = search (rules, tried_start)
 
-pub returns-in-Refused : goal.returns-in-Refused
-returns-in-Refused c = search (rules, tried_stopped)
+pub returns-in-Err : goal.returns-in-Err
+returns-in-Err c = search (rules, tried_stopped)
 
 pub loop-gap-preserved : goal.loop-gap-preserved
 loop-gap-preserved c = search (rules, tried_on)

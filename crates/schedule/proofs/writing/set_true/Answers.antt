@@ -13,7 +13,7 @@ pub after_entry-state-requires : goal.after_entry-state-requires
 after_entry-state-requires c = search (rules, known_now)
 
 pub loop-s-preserved : goal.loop-s-preserved
-loop-s-preserved c = (search rules, search rules, search (rules, steps_more), search (rules, state_more))
+loop-s-preserved c = (search rules, search (rules, steps_more), search (rules, state_more))
 
 pub set_values-requires : goal.set_values-requires
 set_values-requires c = search (rules, inside_now)

@@ -1,0 +1,51 @@
+// The two lists of pairs that an action has.
+ghost use Rattle.std.specs.Prelude.{◌≡◌, ◌<◌, ◌≤◌, length};
+ghost use Rattle.rules.specs.Limits.{max_horizon};
+ghost use Rattle.rules.specs.Task.{A as actionCount, pair, action};
+ghost use Rattle.rules.specs.File.{task_of};
+ghost use Rattle.task.specs.Index.{Indexed};
+ghost use Rattle.checker.specs.Order.{pairs_of, told_at};
+
+use task::asked::{effect, effect_count, precondition, precondition_count};
+use task::numbering::{ValuePlace, nth_action};
+
+// Which of the two lists.
+#[derive(Clone, Copy)]
+pub enum ActionPairs {
+    Preconditions,
+    Effects,
+}
+
+// How many pairs the list of an action has.
+pub fn pair_count(file: &[u8], index: &[u16], list: ActionPairs, a: usize) -> usize
+    requires { Indexed file.now index.now × (a < actionCount (task_of file.now)) }
+    ensures { result ≡ length (pairs_of list (action (task_of file.now) a)) }
+{
+    match list {
+        ActionPairs::Preconditions => precondition_count(file, index, nth_action(a)),
+        ActionPairs::Effects => effect_count(file, index, nth_action(a)),
+    }
+}
+
+// Pair i of the list of an action.
+pub fn nth_pair(file: &[u8], index: &[u16], list: ActionPairs, a: usize, i: usize) -> ValuePlace
+    requires { Indexed file.now index.now × (a < actionCount (task_of file.now)) × (i < length (pairs_of list (action (task_of file.now) a))) }
+    ensures { (result.0 ≡ (pair (pairs_of list (action (task_of file.now) a)) i).variable)
+        × (result.1 ≡ (pair (pairs_of list (action (task_of file.now) a)) i).value) }
+{
+    match list {
+        ActionPairs::Preconditions => precondition(file, index, nth_action(a), i),
+        ActionPairs::Effects => effect(file, index, nth_action(a), i),
+    }
+}
+
+// At which step the pairs of an action that acts at a step are named to hold: its effects hold at the next.
+pub fn told_at(list: ActionPairs, step: usize) -> usize
+    requires { told_at list step ≤ max_horizon }
+    ensures { result ≡ told_at list step }
+{
+    match list {
+        ActionPairs::Preconditions => step,
+        ActionPairs::Effects => step + 1,
+    }
+}
