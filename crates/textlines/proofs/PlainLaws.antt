@@ -3,14 +3,14 @@
 use mathlib.Core.Path.{◌≡◌, refl, sym, ap, ◌∙◌}
 use mathlib.Core.Logic.{⊎_elim}
 use mathlib.Core.Bool.{Bool, true, false, not, ◌&&◌, ◌||◌}
-use mathlib.Core.List.{List}
+use mathlib.Core.List.{List, [], ◌∷◌}
 use Prim.Native.Nat.{ℕ, ◌+◌, ◌≤◌, ◌<◌}
 use native.Mathlib.Omega.{arith}
 use native.Mathlib.Numerals.{add-one}
 use borrow.Author.Tests.{eq-eqb, ne_eqb, le-leb, lt-leb}
 use lib.Dec.{eqb}
 use lib.ListN.{length, drop, drop_of_length-le}
-use lib.Seq.{drop-cons}
+use Rattle.std.specs.List.{list_all}
 use Rattle.rules.specs.Counting.{every}
 use Rattle.rules.specs.Limits.{max_text_digits}
 use Rattle.rules.specs.File.{byte}
@@ -23,20 +23,10 @@ use Rattle.textlines.specs.Says.{is_signed}
 
 -- ---- all bytes are digits
 
-digits_at : (w : List ℕ) (i : ℕ) → i < length w → every is_digit (drop i w) ≡ (is_digit (byte w i) && every is_digit (drop (i + 1) w))
+pub digits_every : (w : List ℕ) → list_all is_digit w ≡ every is_digit w
 unfolding every
-digits_at w i h = rw (add-one i, drop-cons w i 0 h)
-
-module _ (w : List ℕ) (i : ℕ) (left : every is_digit (drop i w) ≡ every is_digit w) where
-  pub digits_not : (r : Bool) → i < length w → r ≡ is_digit (byte w i) → not r ≡ true → false ≡ every is_digit w
-  digits_not r h e t = sym (digits_at w i h ∙ ap (λ b. b && every is_digit (drop (i + 1) w)) (sym e ∙ not_true r t)) ∙ left
-
-  pub digits_on : (r : Bool) → i < length w → r ≡ is_digit (byte w i) → not r ≡ false → every is_digit (drop (i + 1) w) ≡ every is_digit w
-  digits_on r h e t = sym (digits_at w i h ∙ ap (λ b. b && every is_digit (drop (i + 1) w)) (sym e ∙ not_false r t)) ∙ left
-
-  pub digits_all : length w ≤ i → true ≡ every is_digit w
-  unfolding every
-  digits_all h = sym (ap (every is_digit) (drop_of_length-le w {i = i} h)) ∙ left
+digits_every [] = refl
+digits_every (b ∷ w) = ap (λ r. is_digit b && r) (digits_every w)
 
 -- ---- a number
 

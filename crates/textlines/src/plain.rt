@@ -12,14 +12,7 @@ const MAX_DIGITS: usize = 6;
 fn all_digits(word: &[u8]) -> bool
     ensures { result ≡ every is_digit word.now }
 {
-    let mut i = 0;
-    while i < word.len() {
-        if !lent_bytes::words::is_digit(word[i]) {
-            return false;
-        }
-        i += 1;
-    }
-    true
+    word.iter().all(|&b| lent_bytes::words::is_digit(b))
 }
 
 // Whether a word is a number.
