@@ -6,11 +6,11 @@ use mathlib.Core.Bool.{Bool, true, false, not, ◌&&◌}
 use mathlib.Core.List.{List}
 use Prim.Native.Nat.{ℕ}
 use lib.Dec.{eqb}
+use Rattle.std.specs.Prelude.{None, Some}
 use Rattle.rules.specs.Lines.{value_from}
 use Rattle.rules.specs.Format.{word_at, word_count, is_plain, is_minus_one, number_at}
 use Rattle.rules.proofs.Bools.{not_true, not_false, and_left, and_right, or_cases, clash}
 use Rattle.textlines.specs.Says.{old_in, is_signed, is_effect}
-use Rattle.textlines.specs.declared.OldValue.{OldValue}
 
 -- ---- a word by its place
 
@@ -65,7 +65,7 @@ module _ (line : List ℕ) (b : Bool) (is : b ≡ is_effect line) (t : not b ≡
 -- ---- the old value
 
 module _ (line w : List ℕ) (word : w ≡ word_at line 2) (b : Bool) (minus : b ≡ is_minus_one w) where
-  pub old_any : b ≡ true → OldValue.Any ≡ old_in line
+  pub old_any : b ≡ true → None ≡ old_in line
   old_any t = rw (sym (minus ∙ ap is_minus_one word) ∙ t)
 
   module _ (t : b ≡ false) where
@@ -75,6 +75,6 @@ module _ (line w : List ℕ) (word : w ≡ word_at line 2) (b : Bool) (minus : b
         ap is_plain word
         ∙ ⊎_elim (λ p. p) (λ m. clash m (sym (minus ∙ ap is_minus_one word) ∙ t)) (or_cases (is_plain (word_at line 2)) (is_minus_one (word_at line 2)) h)
 
-    pub old_is : (m : ℕ) → m ≡ value_from 0 w → OldValue.Is m ≡ old_in line
+    pub old_is : (m : ℕ) → m ≡ value_from 0 w → Some m ≡ old_in line
     unfolding number_at
-    old_is m e = rw (sym (minus ∙ ap is_minus_one word) ∙ t) (ap (λ n. OldValue.Is n) (e ∙ ap (value_from 0) word))
+    old_is m e = rw (sym (minus ∙ ap is_minus_one word) ∙ t) (ap (λ n. Some n) (e ∙ ap (value_from 0) word))

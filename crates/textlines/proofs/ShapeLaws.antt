@@ -6,6 +6,7 @@ use mathlib.Core.List.{List, [], ◌∷◌}
 use Prim.Native.Nat.{ℕ, ◌≤◌, ◌<◌}
 use borrow.Author.Tests.{eq-eqb, ne_eqb, le-leb, lt-leb}
 use lib.Dec.{eqb, leb}
+use Rattle.std.specs.Prelude.{Option, None, Some, Result, Ok, Err}
 use Rattle.rules.specs.Limits.{format_version}
 use Rattle.rules.specs.Answers.{Rule, demand, judge}
 use Rattle.rules.specs.Task.{Pair}
@@ -18,66 +19,64 @@ use Rattle.rules.specs.declared.Refusal.TheVariants.{AgainstFormat, AxiomOrCondi
 use Rattle.rules.proofs.Bools.{not_true, not_false}
 use Rattle.rules.proofs.Judging.{judge_refused, judge_passed, judge_nil}
 use Rattle.textlines.specs.Says.{numbers, no_numbers, old_in, numbers_in, said_by, shape_says, says_as, says_nothing, against_format, a_number, a_fact, is_fact, is_signed, is_effect}
-use Rattle.textlines.specs.declared.OldValue.{OldValue}
 use Rattle.textlines.specs.declared.Numbers.{Numbers}
-use Rattle.textlines.specs.declared.Said.{Said}
 
 -- ---- rules in their order
 
 pub stops : (holds : Bool) (why : Refusal) (rules : List Rule) (says : Numbers) → holds ≡ false
-    → Said.Refused why ≡ said_by (judge (demand holds why ∷ rules)) says
+    → Err why ≡ said_by (judge (demand holds why ∷ rules)) says
 stops holds why rules says t = sym (ap (λ v. said_by v says) (judge_refused (demand holds why) rules t))
 
 passes : (holds : Bool) (why : Refusal) (rules : List Rule) (says : Numbers) → holds ≡ true
     → said_by (judge rules) says ≡ said_by (judge (demand holds why ∷ rules)) says
 passes holds why rules says t = sym (ap (λ v. said_by v says) (judge_passed (demand holds why) rules t))
 
-through : (says : Numbers) → Said.Says says ≡ said_by (judge []) says
+through : (says : Numbers) → Ok says ≡ said_by (judge []) says
 through says = sym (ap (λ v. said_by v says) judge_nil)
 
 pub plain_true : (line : List ℕ) (b : Bool) → b ≡ is_plain line → not b ≡ false → is_plain line ≡ true
 plain_true line b is t = sym is ∙ not_false b t
 
 module _ (at : ℕ) (line : List ℕ) where
-  pub name_says : (r : Said) → r ≡ says_nothing → r ≡ shape_says name at line
+  pub name_says : (r : Result Numbers Refusal) → r ≡ says_nothing → r ≡ shape_says name at line
   unfolding shape_says line_rules numbers_in judge
   name_says r e = e
 
-  pub nothing_says : (r : Said) → r ≡ against_format at → r ≡ shape_says nothing at line
+  pub nothing_says : (r : Result Numbers Refusal) → r ≡ against_format at → r ≡ shape_says nothing at line
   unfolding shape_says line_rules numbers_in judge
   nothing_says r e = e
 
   module _ (word : List ℕ) (b : Bool) (is : b ≡ same line word) where
-    pub keyword_other : (r : Said) → not b ≡ true → r ≡ against_format at → r ≡ shape_says (keyword word) at line
+    pub keyword_other : (r : Result Numbers Refusal) → not b ≡ true → r ≡ against_format at → r ≡ shape_says (keyword word) at line
     unfolding shape_says line_rules numbers_in
     keyword_other r t e = e ∙ stops (same line word) (AgainstFormat at) [] no_numbers (sym is ∙ not_true b t)
 
-    pub keyword_same : (r : Said) → not b ≡ false → r ≡ says_nothing → r ≡ shape_says (keyword word) at line
+    pub keyword_same : (r : Result Numbers Refusal) → not b ≡ false → r ≡ says_nothing → r ≡ shape_says (keyword word) at line
     unfolding shape_says line_rules numbers_in
     keyword_same r t e = e ∙ through no_numbers ∙ passes (same line word) (AgainstFormat at) [] no_numbers (sym is ∙ not_false b t)
 
   module _ (b : Bool) (is : b ≡ is_plain line) where
-    pub version_against : (r : Said) → not b ≡ true → r ≡ against_format at → r ≡ shape_says version at line
+    pub version_against : (r : Result Numbers Refusal) → not b ≡ true → r ≡ against_format at → r ≡ shape_says version at line
     unfolding shape_says line_rules numbers_in
     version_against r t e = e ∙ stops (is_plain line) (AgainstFormat at) _ no_numbers (sym is ∙ not_true b t)
 
-    pub metric_against : (r : Said) → not b ≡ true → r ≡ against_format at → r ≡ shape_says metric at line
+    pub metric_against : (r : Result Numbers Refusal) → not b ≡ true → r ≡ against_format at → r ≡ shape_says metric at line
     unfolding shape_says line_rules numbers_in
     metric_against r t e =
         e ∙ stops (is_plain line && leb (line_number line) 1) (AgainstFormat at) [] no_numbers (ap (λ p. p && leb (line_number line) 1) (sym is ∙ not_true b t))
 
-    pub number_against : (r : Said) → not b ≡ true → r ≡ against_format at → r ≡ shape_says a_number at line
+    pub number_against : (r : Result Numbers Refusal) → not b ≡ true → r ≡ against_format at → r ≡ shape_says a_number at line
     unfolding shape_says line_rules
     number_against r t e = e ∙ stops (is_plain line) (AgainstFormat at) [] _ (sym is ∙ not_true b t)
 
     module _ (t : not b ≡ false) (m : ℕ) (value : m ≡ value_from 0 line) where
-      pub version_other : (m ≡ format_version → ⊥) → Said.Refused (OtherVersion at) ≡ shape_says version at line
+      pub version_other : (m ≡ format_version → ⊥) → Err (OtherVersion at) ≡ shape_says version at line
       unfolding shape_says line_rules numbers_in line_number
       version_other h =
           stops (eqb (line_number line) format_version) (OtherVersion at) [] no_numbers (ne_eqb (line_number line) format_version (λ e. h (value ∙ e)))
           ∙ passes (is_plain line) (AgainstFormat at) _ no_numbers (plain_true line b is t)
 
-      pub version_right : (r : Said) → m ≡ format_version → r ≡ says_nothing → r ≡ shape_says version at line
+      pub version_right : (r : Result Numbers Refusal) → m ≡ format_version → r ≡ says_nothing → r ≡ shape_says version at line
       unfolding shape_says line_rules numbers_in line_number
       version_right r h e =
           e
@@ -89,19 +88,19 @@ module _ (at : ℕ) (line : List ℕ) where
       unfolding line_number
       metric_by = rw (plain_true line b is t, value)
 
-      pub metric_over : (r : Said) → 1 < m → r ≡ against_format at → r ≡ shape_says metric at line
+      pub metric_over : (r : Result Numbers Refusal) → 1 < m → r ≡ against_format at → r ≡ shape_says metric at line
       unfolding shape_says line_rules numbers_in
       metric_over r h e = e ∙ stops (is_plain line && leb (line_number line) 1) (AgainstFormat at) [] no_numbers (metric_by ∙ lt-leb m 1 h)
 
-      pub metric_right : (r : Said) → m ≤ 1 → r ≡ says_nothing → r ≡ shape_says metric at line
+      pub metric_right : (r : Result Numbers Refusal) → m ≤ 1 → r ≡ says_nothing → r ≡ shape_says metric at line
       unfolding shape_says line_rules numbers_in
       metric_right r h e = e ∙ through no_numbers ∙ passes (is_plain line && leb (line_number line) 1) (AgainstFormat at) [] no_numbers (metric_by ∙ le-leb m 1 h)
 
-      pub number_right : Said.Says (record { first = m; second = 0; old = OldValue.Any }) ≡ shape_says a_number at line
+      pub number_right : Ok (record { first = m; second = 0; old = None }) ≡ shape_says a_number at line
       unfolding shape_says line_rules numbers_in line_number
       number_right =
-          ap (λ n. Said.Says (numbers n 0 OldValue.Any)) value
-          ∙ through (numbers (line_number line) 0 OldValue.Any)
+          ap (λ n. Ok (numbers n 0 None)) value
+          ∙ through (numbers (line_number line) 0 None)
           ∙ passes (is_plain line) (AgainstFormat at) [] _ (plain_true line b is t)
 
   -- the axiom layer: the first word, then the rest
@@ -110,12 +109,12 @@ module _ (at : ℕ) (line : List ℕ) where
     unfolding is_signed
     signed_first = signed ∙ ap is_signed first
 
-    pub layer_against : (r : Said) → not b ≡ true → r ≡ against_format at → r ≡ shape_says layer at line
+    pub layer_against : (r : Result Numbers Refusal) → not b ≡ true → r ≡ against_format at → r ≡ shape_says layer at line
     unfolding shape_says line_rules numbers_in
     layer_against r t e = e ∙ stops (is_plain (word_at line 0) || is_minus_one (word_at line 0)) (AgainstFormat at) _ no_numbers (sym signed_first ∙ not_true b t)
 
     module _ (t : not b ≡ false) (c : Bool) (minus : c ≡ is_minus_one w) where
-      pub layer_axiom : not c ≡ true → Said.Refused (AxiomOrCondition at) ≡ shape_says layer at line
+      pub layer_axiom : not c ≡ true → Err (AxiomOrCondition at) ≡ shape_says layer at line
       unfolding shape_says line_rules numbers_in
       layer_axiom u =
           stops (is_minus_one (word_at line 0)) (AxiomOrCondition at) _ no_numbers (sym (minus ∙ ap is_minus_one first) ∙ not_true c u)
@@ -128,20 +127,20 @@ module _ (at : ℕ) (line : List ℕ) where
             passes (is_minus_one (word_at line 0)) (AxiomOrCondition at) _ no_numbers (sym (minus ∙ ap is_minus_one first) ∙ not_false c u)
             ∙ passes (is_plain (word_at line 0) || is_minus_one (word_at line 0)) (AgainstFormat at) _ no_numbers (sym signed_first ∙ not_false b t)
 
-        pub layer_more : (r : Said) → not d ≡ true → r ≡ against_format at → r ≡ shape_says layer at line
+        pub layer_more : (r : Result Numbers Refusal) → not d ≡ true → r ≡ against_format at → r ≡ shape_says layer at line
         layer_more r v e = e ∙ stops (eqb (word_count line) 1) (AgainstFormat at) [] no_numbers (sym one ∙ not_true d v) ∙ layer_rest
 
-        pub layer_right : (r : Said) → not d ≡ false → r ≡ says_nothing → r ≡ shape_says layer at line
+        pub layer_right : (r : Result Numbers Refusal) → not d ≡ false → r ≡ says_nothing → r ≡ shape_says layer at line
         layer_right r v e =
             e ∙ through no_numbers ∙ passes (eqb (word_count line) 1) (AgainstFormat at) [] no_numbers (sym one ∙ not_false d v) ∙ layer_rest
 
   -- a count that has to be 0, then the rest: effects and axioms
   module _ (b : Bool) (plain : b ≡ is_plain (word_at line 0)) where
-    pub effect_against : (r : Said) → not b ≡ true → r ≡ against_format at → r ≡ shape_says effect at line
+    pub effect_against : (r : Result Numbers Refusal) → not b ≡ true → r ≡ against_format at → r ≡ shape_says effect at line
     unfolding shape_says line_rules
     effect_against r t e = e ∙ stops (is_plain (word_at line 0)) (AgainstFormat at) _ _ (sym plain ∙ not_true b t)
 
-    pub axiom_against : (r : Said) → not b ≡ true → r ≡ against_format at → r ≡ shape_says axiom_count at line
+    pub axiom_against : (r : Result Numbers Refusal) → not b ≡ true → r ≡ against_format at → r ≡ shape_says axiom_count at line
     unfolding shape_says line_rules
     axiom_against r t e = e ∙ stops (is_plain (word_at line 0)) (AgainstFormat at) _ _ (sym plain ∙ not_true b t)
 
@@ -153,11 +152,11 @@ module _ (at : ℕ) (line : List ℕ) where
           ap (λ n. said_by (judge (demand (eqb n 0) (AxiomOrCondition at) ∷ rules)) says) value
           ∙ passes (is_plain (word_at line 0)) (AgainstFormat at) _ says (plain_true (word_at line 0) b plain t)
 
-      pub effect_condition : (m ≡ 0 → ⊥) → Said.Refused (AxiomOrCondition at) ≡ shape_says effect at line
+      pub effect_condition : (m ≡ 0 → ⊥) → Err (AxiomOrCondition at) ≡ shape_says effect at line
       unfolding shape_says line_rules
       effect_condition h = stops (eqb m 0) (AxiomOrCondition at) _ _ (ne_eqb m 0 h) ∙ counted _ _
 
-      pub axiom_counted : (m ≡ 0 → ⊥) → Said.Refused (AxiomOrCondition at) ≡ shape_says axiom_count at line
+      pub axiom_counted : (m ≡ 0 → ⊥) → Err (AxiomOrCondition at) ≡ shape_says axiom_count at line
       unfolding shape_says line_rules
       axiom_counted h = stops (eqb m 0) (AxiomOrCondition at) _ _ (ne_eqb m 0 h) ∙ counted _ _
 
@@ -166,15 +165,15 @@ module _ (at : ℕ) (line : List ℕ) where
         unfolding shape_says line_rules is_effect is_signed
         effect_rest = passes (eqb m 0) (AxiomOrCondition at) _ _ (eq-eqb m 0 z) ∙ counted _ _
 
-        pub effect_broken : (r : Said) → c ≡ is_effect line → not c ≡ true → r ≡ against_format at → r ≡ shape_says effect at line
+        pub effect_broken : (r : Result Numbers Refusal) → c ≡ is_effect line → not c ≡ true → r ≡ against_format at → r ≡ shape_says effect at line
         effect_broken r f u e = e ∙ stops (is_effect line) (AgainstFormat at) [] _ (sym f ∙ not_true c u) ∙ effect_rest
 
-        pub effect_right : c ≡ is_effect line → not c ≡ false → (x v : ℕ) (o : OldValue) → x ≡ number_at line 1 → v ≡ number_at line 3 → o ≡ old_in line
-            → Said.Says (record { first = x; second = v; old = o }) ≡ shape_says effect at line
+        pub effect_right : c ≡ is_effect line → not c ≡ false → (x v : ℕ) (o : Option ℕ) → x ≡ number_at line 1 → v ≡ number_at line 3 → o ≡ old_in line
+            → Ok (record { first = x; second = v; old = o }) ≡ shape_says effect at line
         unfolding numbers_in
         effect_right f u x v o ex ev eo =
             let said : ◌≡◌ {A = Numbers} (numbers x v o) (numbers (number_at line 1) (number_at line 3) (old_in line)) = rw (ex, ev, eo) in
-            ap (λ n. Said.Says n) said
+            ap (λ n. Ok n) said
             ∙ through _
             ∙ passes (is_effect line) (AgainstFormat at) [] _ (sym f ∙ not_false c u)
             ∙ effect_rest
@@ -183,37 +182,37 @@ module _ (at : ℕ) (line : List ℕ) where
         unfolding shape_says line_rules numbers_in
         axiom_rest = passes (eqb m 0) (AxiomOrCondition at) _ _ (eq-eqb m 0 z) ∙ counted _ _
 
-        pub axiom_more : (r : Said) → c ≡ eqb (word_count line) 1 → not c ≡ true → r ≡ against_format at → r ≡ shape_says axiom_count at line
+        pub axiom_more : (r : Result Numbers Refusal) → c ≡ eqb (word_count line) 1 → not c ≡ true → r ≡ against_format at → r ≡ shape_says axiom_count at line
         axiom_more r f u e = e ∙ stops (eqb (word_count line) 1) (AgainstFormat at) [] _ (sym f ∙ not_true c u) ∙ axiom_rest
 
-        pub axiom_right : (r : Said) → c ≡ eqb (word_count line) 1 → not c ≡ false → r ≡ says_nothing → r ≡ shape_says axiom_count at line
+        pub axiom_right : (r : Result Numbers Refusal) → c ≡ eqb (word_count line) 1 → not c ≡ false → r ≡ says_nothing → r ≡ shape_says axiom_count at line
         axiom_right r f u e = e ∙ through no_numbers ∙ passes (eqb (word_count line) 1) (AgainstFormat at) [] _ (sym f ∙ not_false c u) ∙ axiom_rest
 
   module _ (b : Bool) (is : b ≡ is_fact line) where
-    pub fact_against : (r : Said) → not b ≡ true → r ≡ against_format at → r ≡ shape_says a_fact at line
+    pub fact_against : (r : Result Numbers Refusal) → not b ≡ true → r ≡ against_format at → r ≡ shape_says a_fact at line
     unfolding shape_says line_rules is_fact
     fact_against r t e = e ∙ stops _ (AgainstFormat at) [] _ (sym is ∙ not_true b t)
 
     pub fact_right : not b ≡ false → (x v : ℕ) → x ≡ number_at line 0 → v ≡ number_at line 1
-        → Said.Says (record { first = x; second = v; old = OldValue.Any }) ≡ shape_says a_fact at line
+        → Ok (record { first = x; second = v; old = None }) ≡ shape_says a_fact at line
     unfolding shape_says line_rules is_fact numbers_in
     fact_right t x v ex ev =
-        let said : ◌≡◌ {A = Numbers} (numbers x v OldValue.Any) (numbers (number_at line 0) (number_at line 1) OldValue.Any) = rw (ex, ev) in
-        ap (λ n. Said.Says n) said ∙ through _ ∙ passes _ (AgainstFormat at) [] _ (sym is ∙ not_false b t)
+        let said : ◌≡◌ {A = Numbers} (numbers x v None) (numbers (number_at line 0) (number_at line 1) None) = rw (ex, ev) in
+        ap (λ n. Ok n) said ∙ through _ ∙ passes _ (AgainstFormat at) [] _ (sym is ∙ not_false b t)
 
   -- what a number announces and states is no matter of the line
-  pub number_says : (r : Said) → (announced : ℕ → List FormatLine) (states : ℕ → Stated → Stated) → r ≡ shape_says a_number at line → r ≡ shape_says (number announced states) at line
+  pub number_says : (r : Result Numbers Refusal) → (announced : ℕ → List FormatLine) (states : ℕ → Stated → Stated) → r ≡ shape_says a_number at line → r ≡ shape_says (number announced states) at line
   unfolding shape_says line_rules numbers_in
   number_says r announced states e = e
 
-  pub fact_says : (r : Said) → (states : Pair → Stated → Stated) → r ≡ shape_says a_fact at line → r ≡ shape_says (fact states) at line
+  pub fact_says : (r : Result Numbers Refusal) → (states : Pair → Stated → Stated) → r ≡ shape_says a_fact at line → r ≡ shape_says (fact states) at line
   unfolding shape_says line_rules numbers_in
   fact_says r states e = e
 
-  pub says_as_lem : (r : Said) → (due kind : FormatLine) → due ≡ kind → r ≡ says_as kind at line → r ≡ says_as due at line
+  pub says_as_lem : (r : Result Numbers Refusal) → (due kind : FormatLine) → due ≡ kind → r ≡ says_as kind at line → r ≡ says_as due at line
   says_as_lem r due kind e h = rw e h
 
 -- of a mutex group's fact nothing else is asked
-pub group_fact : (at : ℕ) (line : List ℕ) → is_fact line ≡ true → says_as MutexFact at line ≡ Said.Says (numbers (number_at line 0) (number_at line 1) OldValue.Any)
+pub group_fact : (at : ℕ) (line : List ℕ) → is_fact line ≡ true → says_as MutexFact at line ≡ Ok (numbers (number_at line 0) (number_at line 1) None)
 unfolding says_as
 group_fact at line t = sym (fact_says at line _ _ (fact_right at line true (sym t) refl _ _ refl refl))
