@@ -6,7 +6,7 @@ use mathlib.Core.List.{List, [], ◌∷◌}
 use Prim.Native.Nat.{ℕ, ◌≤◌, ◌<◌}
 use borrow.Author.Tests.{eq-eqb, ne_eqb, le-leb, lt-leb}
 use lib.Dec.{eqb, leb}
-use Rattle.std.specs.Prelude.{Option, None, Some, Result, Ok, Err}
+use Rattle.std.specs.Prelude.{Option, None, Result, Ok, Err}
 use Rattle.rules.specs.Limits.{format_version}
 use Rattle.rules.specs.Answers.{Rule, demand, judge}
 use Rattle.rules.specs.Task.{Pair}
@@ -211,6 +211,9 @@ module _ (at : ℕ) (line : List ℕ) where
 
   pub says_as_lem : (r : Result Numbers Refusal) → (due kind : FormatLine) → due ≡ kind → r ≡ says_as kind at line → r ≡ says_as due at line
   says_as_lem r due kind e h = rw e h
+
+-- what each arm of the table of lines goes by
+pub ruleset says_arms = (name_says, nothing_says, number_says, fact_says, says_as_lem)
 
 -- of a mutex group's fact nothing else is asked
 pub group_fact : (at : ℕ) (line : List ℕ) → is_fact line ≡ true → says_as MutexFact at line ≡ Ok (numbers (number_at line 0) (number_at line 1) None)

@@ -34,6 +34,7 @@ pub fn is_fact(line: &[u8]) -> bool
 }
 
 // What a line says where a line of some kind is due, or why it is refused; `at` is its number in the text.
+#[tactic(auto, using(crate::proofs::ShapeLaws::says_arms), unfolding(crate::specs::Says::says_as, rules::specs::Text::ascii))]
 pub fn says(due: FormatLine, at: usize, line: &[u8]) -> Result<Numbers, Refusal>
     ensures { result ≡ says_as due at line.now }
 {

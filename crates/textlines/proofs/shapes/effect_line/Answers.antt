@@ -2,14 +2,11 @@
 -- Assumes nothing.
 use borrow.Author.Rules.{rules}
 use Rattle.textlines.proofs.PartLaws.{effect_plain_variable, effect_signed_old, effect_plain_new}
-use Rattle.textlines.proofs.ShapeLaws.{plain_true, effect_against, effect_condition, effect_broken, effect_right}
+use Rattle.textlines.proofs.ShapeLaws.{effect_against, effect_condition, effect_broken, effect_right}
 use Rattle.textlines.proofs.shapes.effect_line.Goals as goal
 
 pub returns-then-not-is_plain_at : goal.returns-then-not-is_plain_at
 returns-then-not-is_plain_at c = search (rules, effect_against)
-
-pub number_at-requires : goal.number_at-requires
-number_at-requires c = search (rules, plain_true)
 
 pub returns-then-number_at-ne0 : goal.returns-then-number_at-ne0
 returns-then-number_at-ne0 c = search (rules, effect_condition)

@@ -1,11 +1,8 @@
 -- `old_in` meets its contract.
 -- Assumes nothing.
 use borrow.Author.Rules.{rules}
-use Rattle.textlines.proofs.PartLaws.{old_any, old_plain, old_is}
+use Rattle.textlines.proofs.PartLaws.{old_plain, old_is}
 use Rattle.textlines.proofs.shapes.old_in.Goals as goal
-
-pub returns-then-is_minus_one : goal.returns-then-is_minus_one
-returns-then-is_minus_one c = search (rules, old_any)
 
 pub number-requires : goal.number-requires
 number-requires c = search (rules, old_plain)
