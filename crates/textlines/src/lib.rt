@@ -10,8 +10,8 @@ ghost use Rattle.textlines.specs.Says.{is_fact, says_as};
 
 use rules::{FormatLine, Refusal};
 
-// The numbers of a line: a count, a size or a value; a fact's variable and value; an effect's variable, new value and old value, where none stands for
-// any: -1 in the text.
+// The numbers of a line: a count, a size or a value; a fact's variable and value; an effect's variable, new value and old value. An old value that
+// may be any, -1 in the text, is none.
 #[derive(Clone, Copy)]
 pub struct Numbers {
     pub first: usize,

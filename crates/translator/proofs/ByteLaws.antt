@@ -4,13 +4,17 @@ use Prim.Native.Nat.{ℕ, zero, suc, ◌+◌, ◌-◌, ◌≤◌, ◌<◌}
 use mathlib.Core.Path.{◌≡◌, refl, sym, ap, ap₂, ◌∙◌}
 use mathlib.Core.Bool.{Bool, true, false, not, ◌&&◌}
 use mathlib.Core.List.{List}
+use mathlib.Core.Logic.{◌≢◌}
 use native.Mathlib.Omega.{arith}
 use native.Mathlib.Nat.{add-zero, add-suc}
 use native.Mathlib.Numerals.{add-one}
-use borrow.Author.Tests.{eq-eqb, le-leb, lt-leb, leb-true}
+use borrow.Author.Tests.{eq-eqb, ne_eqb, le-leb, lt-leb, leb-true}
 use lib.Dec.{eqb, leb}
-use lib.ListN.{length, get_or, drop, set, drop_of_length-le}
-use lib.Seq.{drop-cons}
+use lib.ListN.{length, get_or, take, drop, set, length-drop, drop_of_length-le}
+use lib.Seq.{drop-cons, get_or-drop, take_all as take_whole}
+use Rattle.std.specs.Prelude.{Option, None, Some}
+use Rattle.std.specs.Option.{MatchOption, unwrap_or}
+use Rattle.std.specs.List.{AllWithin, HoldsAt}
 use Rattle.rules.specs.Text.{lf}
 use Rattle.rules.specs.declared.Refusal.{Refusal}
 use Rattle.rules.specs.declared.Refusal.TheVariants.{Room}
@@ -26,12 +30,19 @@ pub next_byte : (t : Taken) (bytes : List ℕ) (n : ℕ) → n < length bytes �
 unfolding take_all
 next_byte t bytes n h = rw (add-one n, drop-cons bytes n 0 h)
 
+-- what is left from a place on, as a lent part has it
+pub left_from : (bytes : List ℕ) (at : ℕ) → take (length bytes - at) (drop at bytes) ≡ drop at bytes
+left_from bytes at = take_whole (length bytes - at) (drop at bytes) (omega (arith, length-drop at bytes))
+
 -- ---- bytes up to an LF or the end
 
 module _ (bytes : List ℕ) (at held : ℕ) (line : List ℕ) where
   pub rest_none : SameRest bytes at held line at held line
   unfolding SameRest
   rest_none i m e = refl
+
+  pub rest_start : SameRest bytes at held line (at + 0) (held + 0) line
+  rest_start = rw (add-zero at, add-zero held) rest_none
 
   module _ (n h : ℕ) (l : List ℕ) (rest : SameRest bytes at held line n h l) where
     rest_on : (h' : ℕ) (l' : List ℕ) → n < length bytes
@@ -41,8 +52,9 @@ module _ (bytes : List ℕ) (at held : ℕ) (line : List ℕ) where
     rest_on h' l' k o i m e =
         ap (λ t. take_all t (drop (n + 1) bytes)) (sym (o i m e)) ∙ sym (next_byte (taken (with_held h i) m l) bytes n k) ∙ rest i m e
 
-    pub rest_held : n < length bytes → (get_or bytes n 0 ≡ lf → ⊥) → h < head_room → SameRest bytes at held line (n + 1) (h + 1) (set l h (get_or bytes n 0))
-    rest_held k f r = rest_on (h + 1) (set l h (get_or bytes n 0)) k (λ i m e. byte_held (taken (with_held h i) m l) (get_or bytes n 0) e f r)
+    pub rest_held : (n' h' : ℕ) → n' ≡ n + 1 → h' ≡ h + 1 → n < length bytes → (get_or bytes n 0 ≡ lf → ⊥) → h < head_room
+        → SameRest bytes at held line n' h' (set l h (get_or bytes n 0))
+    rest_held n' h' a b k f r = rw (a, b) (rest_on (h + 1) (set l h (get_or bytes n 0)) k (λ i m e. byte_held (taken (with_held h i) m l) (get_or bytes n 0) e f r))
 
     rest_passed : n < length bytes → (get_or bytes n 0 ≡ lf → ⊥) → head_room ≤ h → SameRest bytes at held line (n + 1) h l
     rest_passed k f r = rest_on h l k (λ i m e. byte_passed (taken (with_held h i) m l) (get_or bytes n 0) e f r)
@@ -53,21 +65,16 @@ module _ (bytes : List ℕ) (at held : ℕ) (line : List ℕ) where
     pub up_to-end : at ≤ n → n ≤ length bytes → length bytes ≤ n → h ≤ head_room → HeldUpTo bytes at held line n h l
     up_to-end f w k r = record { from = f; within = w; ends = λ z. absurd (omega arith); fits = r; rest = rest }
 
-    pub up_to-passed : (end : ℕ) → at ≤ n → head_room ≤ h → h ≤ head_room → PassedUpTo bytes n end → HeldUpTo bytes at held line end h l
+    pub up_to-passed : (n' end : ℕ) → n' ≡ n → at ≤ n → h ≡ head_room → PassedUpTo bytes n' end → HeldUpTo bytes at held line end head_room l
     unfolding SameRest Passed
-    up_to-passed end f g r p =
-        let full : h ≡ head_room = omega arith in
+    up_to-passed n' end same f full behind =
+        let p : PassedUpTo bytes n end = rw same at behind in
         record {
           from = omega (arith, p.from);
           within = p.within;
           ends = p.ends;
-          fits = r;
-          rest =
-              λ i m e.
-              ap (λ k. take_all (taken (with_held k i) m l) (drop end bytes)) full
-              ∙ p.rest l i m e
-              ∙ ap (λ k. take_all (taken (with_held k i) m l) (drop n bytes)) (sym full)
-              ∙ rest i m e;
+          fits = omega arith;
+          rest = λ i m e. p.rest l i m e ∙ ap (λ k. take_all (taken (with_held k i) m l) (drop n bytes)) (sym full) ∙ rest i m e;
         }
 
 -- ---- bytes without an LF
@@ -118,15 +125,9 @@ module _ (bytes : List ℕ) (at : ℕ) where
   passed_none line = rest_none bytes at head_room line
 
   module _ (n : ℕ) (passed : Passed bytes at n) where
-    pub passed_byte : n < length bytes → (get_or bytes n 0 ≡ lf → ⊥) → Passed bytes at (n + 1)
+    passed_byte : n < length bytes → (get_or bytes n 0 ≡ lf → ⊥) → Passed bytes at (n + 1)
     unfolding Passed
     passed_byte k f line = rest_passed bytes at head_room line n head_room line (passed line) k f (omega arith)
-
-    pub passed_to_lf : at ≤ n → n < length bytes → get_or bytes n 0 ≡ lf → PassedUpTo bytes at n
-    passed_to_lf f k e = record { from = f; within = omega arith; ends = λ z. e; rest = passed }
-
-    pub passed_to_end : at ≤ n → n ≤ length bytes → length bytes ≤ n → PassedUpTo bytes at n
-    passed_to_end f w k = record { from = f; within = w; ends = λ z. absurd (omega arith); rest = passed }
 
     pub passed_behind : at ≤ n → (end : ℕ) → PassedUpTo bytes n end → PassedUpTo bytes at end
     unfolding Passed SameRest
@@ -142,6 +143,33 @@ module _ (bytes : List ℕ) (at : ℕ) where
       rw (add-suc n c, ← add-one (n + c))
       (passed_byte (n + c) (passed_many n passed c (omega arith) others) (omega arith)
       (λ e. clash (eq-eqb (get_or bytes (n + c) 0) lf e) (not_true (eqb (get_or bytes (n + c) 0) lf) last)))
+
+  -- none of the bytes before the first LF is one
+  no_lf-before : (n : ℕ) → ((k : ℕ) → k < n → get_or bytes (at + k) 0 ≢ lf) → no_lf bytes at n ≡ true
+  unfolding no_lf
+  no_lf-before zero f = refl
+  no_lf-before (suc n) f = rw (no_lf-before n (λ k h. f k (omega arith)), ne_eqb (get_or bytes (at + n) 0) lf (f n (omega arith))) refl
+
+  passed_before : (n : ℕ) → at + n ≤ length bytes → AllWithin (λ b. b ≢ lf) (drop at bytes) 0 n → Passed bytes at (at + n)
+  passed_before n h w =
+      passed_many at passed_none n h (no_lf-before n (λ k f e. w k 0 (omega arith) f (get_or-drop at bytes k 0 ∙ e)))
+
+  pub passed_first : (n : ℕ) (r : Option ℕ) → at ≤ length bytes → n ≡ unwrap_or r (length bytes - at)
+      → MatchOption r (AllWithin (λ b. b ≢ lf) (drop at bytes) 0 (length (drop at bytes)))
+      (λ i. (i < length (drop at bytes)) × HoldsAt (λ b. b ≡ lf) (drop at bytes) i × AllWithin (λ b. b ≢ lf) (drop at bytes) 0 i)
+      → PassedUpTo bytes at (at + n)
+  passed_first n None h e all =
+      let whole : AllWithin (λ b. b ≢ lf) (drop at bytes) 0 n = rw (e, ← length-drop at bytes) all in
+      record { from = omega arith; within = omega (arith, e); ends = λ k. absurd (omega (arith, e)); rest = passed_before n (omega (arith, e)) whole }
+  passed_first n (Some i) h e m =
+      let short : i < length bytes - at = rw (length-drop at bytes) at m.0 in
+      rw e
+      (record {
+        from = omega arith;
+        within = omega arith;
+        ends = λ k. sym (get_or-drop at bytes i 0) ∙ m.1 0;
+        rest = passed_before i (omega arith) m.2;
+      })
 
   module _ (n : ℕ) (r : Bool) (is : r ≡ block_passes bytes n) (t : r ≡ true) where
     pub block_within : n + block ≤ length bytes

@@ -59,9 +59,9 @@ fact_ended f next i m line l t =
 abbrev held_to : (end held : ℕ) → Facts → Facts
 held_to end held f = facts end held f.left f.lines
 
-pub one_less : (f r : Facts) (next end h : ℕ) → 0 < f.left → r ≡ one_read next (held_to end h f) → r.left < f.left
+pub one_less : (f r : Facts) (next : ℕ) → r ≡ one_read next f → r.left ≡ f.left - 1
 unfolding one_read
-one_less f r next end h p e = omega (arith, ap (λ r. r.left) e)
+one_less f r next e = ap (λ r. r.left) e
 
 module _ (bytes : List ℕ) (first : Facts) (line : List ℕ) where
   pub facts_none : first.at ≤ length bytes → first.held ≤ head_room → FactsRead bytes first line first line

@@ -5,10 +5,10 @@ use mathlib.Core.Path.{◌≡◌, refl, ap, ◌∙◌}
 use mathlib.Core.List.{List, [], ◌∷◌}
 use denote.Enum.Declared.{tag_of}
 use types.Run.{OneOf, miss}
+use Rattle.std.specs.Prelude.{Option, None, Some}
 use Rattle.rules.specs.contracts.FormatLine.{the_type}
 use Rattle.rules.specs.declared.FormatLine.{FormatLine}
 use Rattle.rules.specs.declared.FormatLine.TheVariants.{BeginVersion, Version, EndVersion, BeginMetric, Metric, EndMetric, VariableCount, BeginVariable, VariableName, AxiomLayer, Range, AtomName, EndVariable, MutexGroupCount, BeginMutexGroup, MutexFactCount, MutexFact, EndMutexGroup, BeginState, StateValue, EndState, BeginGoal, GoalCount, GoalFact, EndGoal, OperatorCount, BeginOperator, OperatorName, PrevailCount, PrevailCondition, EffectCount, Effect, Cost, EndOperator, AxiomCount, EndOfText}
-use Rattle.textlines.specs.declared.OldValue.{OldValue}
 use Rattle.textlines.specs.declared.Numbers.{Numbers}
 use Rattle.bodies.specs.declared.Kept.{Kept}
 use Rattle.bodies.specs.Keeping.{Keeping, keeps, keep_size, keep_start, keep_goal, keep_precondition, keep_effect, keep_action}
@@ -16,11 +16,11 @@ use Rattle.translator.specs.Intake.{in_actions, memory, KeptBodies, kept_in, pai
 
 -- ---- an effect
 
-module _ (variable : ℕ) (old : OldValue) (kept : Kept) (actions : List ℕ) where
-  pub any_old : old ≡ OldValue.Any → keeps kept actions ≡ keep_old variable old (keeps kept actions)
+module _ (variable : ℕ) (old : Option ℕ) (kept : Kept) (actions : List ℕ) where
+  pub any_old : old ≡ None → keeps kept actions ≡ keep_old variable old (keeps kept actions)
   any_old e = rw e
 
-  pub some_old : (value : ℕ) (r : Kept) (after : List ℕ) → old ≡ OldValue.Is value
+  pub some_old : (value : ℕ) (r : Kept) (after : List ℕ) → old ≡ Some value
       → keeps r after ≡ keep_precondition (pair_of variable value) (keeps kept actions)
       → keeps r after ≡ keep_old variable old (keeps kept actions)
   some_old value r after e h = rw e h

@@ -7,12 +7,12 @@ use native.Mathlib.Omega.{arith}
 use borrow.Author.Tests.{eq-eqb, ne_eqb}
 use lib.ListN.{length, take}
 use lib.Seq.{length-take-le}
+use Rattle.std.specs.Prelude.{Result, Ok, Err}
 use Rattle.rules.specs.declared.FormatLine.{FormatLine}
 use Rattle.rules.specs.declared.Refusal.{Refusal}
 use Rattle.rules.specs.declared.Verdict.TheVariants.{Accepted, Refused}
 use Rattle.textlines.specs.Says.{says_as}
 use Rattle.textlines.specs.declared.Numbers.{Numbers}
-use Rattle.textlines.specs.declared.Said.{Said}
 use Rattle.bodies.specs.Keeping.{Sound, nothing_kept}
 use Rattle.bodies.specs.declared.Kept.{Kept}
 use Rattle.translator.specs.Position.{first_position, line_due, moved_on}
@@ -32,11 +32,11 @@ pub read_on-is : (due : FormatLine) (said : Numbers) (i : Intake) (kept : Kept) 
     → ◌≡◌ {A = Intake} (record { position = p; lines = lines; verdict = Accepted; kept = kept; held = 0 }) (read_on due said i kept)
 read_on-is due said i kept p lines e f = rw (e, f)
 
-module _ (said : Said) (due : FormatLine) (i r : Intake) (m : Memory) where
-  pub after_refused : (why : Refusal) → said ≡ Said.Refused why → r ≡ stopped_for why i → (line : List ℕ) → taken r m line ≡ after_line said due i m line
+module _ (said : Result Numbers Refusal) (due : FormatLine) (i r : Intake) (m : Memory) where
+  pub after_refused : (why : Refusal) → said ≡ Err why → r ≡ stopped_for why i → (line : List ℕ) → taken r m line ≡ after_line said due i m line
   after_refused why w e line = rw (w, e)
 
-  pub after_read : (numbers : Numbers) (after : Memory) → said ≡ Said.Says numbers → r ≡ read_on due numbers i r.kept
+  pub after_read : (numbers : Numbers) (after : Memory) → said ≡ Ok numbers → r ≡ read_on due numbers i r.kept
       → kept_in r.kept after ≡ keep_line due numbers (kept_in i.kept m) → (line : List ℕ) → taken r after line ≡ after_line said due i m line
   after_read numbers after w e k line =
       rw w (ap (λ r. taken r after line) e ∙ ap (λ b. taken (read_on due numbers i b.kept) b.memory line) k)
@@ -55,7 +55,7 @@ module _ (i : Intake) (m : Memory) (line : List ℕ) where
   unfolding end_line
   refused_before why e = rw e
 
-  pub line_ended : (due : FormatLine) (at : ℕ) (said : Said) (r : Intake) (after : Memory) → i.verdict ≡ Accepted → due ≡ line_due i.position
+  pub line_ended : (due : FormatLine) (at : ℕ) (said : Result Numbers Refusal) (r : Intake) (after : Memory) → i.verdict ≡ Accepted → due ≡ line_due i.position
       → at ≡ one_more i.lines → said ≡ says_as due at (take i.held line) → ((line : List ℕ) → taken r after line ≡ after_line said due i m line)
       → taken r after line ≡ end_line (taken i m line)
   unfolding end_line
@@ -64,18 +64,18 @@ module _ (i : Intake) (m : Memory) (line : List ℕ) where
 
 -- ---- a last line without LF
 
-module _ (said : Said) (due : FormatLine) (i r : Intake) where
-  pub last_refused : (why : Refusal) → said ≡ Said.Refused why → r ≡ stopped_for why i → r ≡ last_said said due i
+module _ (said : Result Numbers Refusal) (due : FormatLine) (i r : Intake) where
+  pub last_refused : (why : Refusal) → said ≡ Err why → r ≡ stopped_for why i → r ≡ last_said said due i
   last_refused why w e = rw w e
 
-  pub last_read : (numbers : Numbers) → said ≡ Said.Says numbers → r ≡ read_on due numbers i i.kept → r ≡ last_said said due i
+  pub last_read : (numbers : Numbers) → said ≡ Ok numbers → r ≡ read_on due numbers i i.kept → r ≡ last_said said due i
   last_read numbers w e = rw w e
 
-said_keeps : (said : Said) (due : FormatLine) (i : Intake) → (last_said said due i).kept ≡ i.kept
-said_keeps (Said.Says numbers) due i = refl
-said_keeps (Said.Refused why) due i = refl
+said_keeps : (said : Result Numbers Refusal) (due : FormatLine) (i : Intake) → (last_said said due i).kept ≡ i.kept
+said_keeps (Ok numbers) due i = refl
+said_keeps (Err why) due i = refl
 
-pub last_keeps : (said : Said) (due : FormatLine) (i r : Intake) → r ≡ last_said said due i → r.kept ≡ i.kept
+pub last_keeps : (said : Result Numbers Refusal) (due : FormatLine) (i r : Intake) → r ≡ last_said said due i → r.kept ≡ i.kept
 last_keeps said due i r e = ap (λ i. i.kept) e ∙ said_keeps said due i
 
 module _ (i : Intake) (line : List ℕ) where
@@ -87,7 +87,7 @@ module _ (i : Intake) (line : List ℕ) where
   unfolding last_line
   last_stopped why h e m = rw (ne_eqb i.held 0 h, e)
 
-  pub last_judged : (due : FormatLine) (at : ℕ) (said : Said) (r : Intake) → (i.held ≡ 0 → ⊥) → i.verdict ≡ Accepted → due ≡ line_due i.position
+  pub last_judged : (due : FormatLine) (at : ℕ) (said : Result Numbers Refusal) (r : Intake) → (i.held ≡ 0 → ⊥) → i.verdict ≡ Accepted → due ≡ line_due i.position
       → at ≡ one_more i.lines → said ≡ says_as due at (take i.held line) → r ≡ last_said said due i
       → (m : Memory) → taken r m line ≡ last_line (taken i m line)
   unfolding last_line

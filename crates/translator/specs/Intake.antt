@@ -1,6 +1,6 @@
 -- A text taken in: a line at a time, and in pieces of any length. The first bytes of a line are held, which decide it.
 -- Assumes nothing.
-use Rattle.std.specs.Prelude.{ℕ, zero, suc, ◌+◌, ◌*◌, ◌-◌, ◌^◌, ◌≤◌, ◌<◌, min, ◌≡◌, Bool, true, not, cond, ◌&&◌, leb, ltb, eqb, length, get_or, take, drop, set}
+use Rattle.std.specs.Prelude.{ℕ, zero, suc, ◌+◌, ◌*◌, ◌-◌, ◌^◌, ◌≤◌, ◌<◌, min, ◌≡◌, Bool, true, not, cond, ◌&&◌, leb, ltb, eqb, length, get_or, take, drop, set, Option, None, Some, Result, Ok, Err}
 use mathlib.Core.List.{List, [], ◌∷◌, foldl}
 use Rattle.rules.specs.Limits.{max_variables, max_goals, max_actions, max_pairs, max_action, pair_bytes}
 use Rattle.rules.specs.Answers.{judge, demand, in_turn}
@@ -18,9 +18,7 @@ use Rattle.rules.specs.declared.FormatLine.TheVariants.{BeginVersion, Version, E
 use Rattle.reader.specs.Bodies.{bodies_rules}
 use Rattle.writer.specs.Laid.{laid_out}
 use Rattle.textlines.specs.Says.{deciding, says_as}
-use Rattle.textlines.specs.declared.OldValue.{OldValue}
 use Rattle.textlines.specs.declared.Numbers.{Numbers}
-use Rattle.textlines.specs.declared.Said.{Said}
 use Rattle.bodies.specs.Keeping.{Keeping, keeps, nothing_kept, Sound, goal_room, actions_room, keep_size, keep_start, keep_goal, keep_precondition, keep_effect, keep_action}
 use Rattle.bodies.specs.declared.Kept.{Kept}
 use Rattle.bodies.specs.declared.Excess.{Excess}
@@ -82,9 +80,9 @@ abbrev pub pair_of : (variable value : ℕ) → Pair
 pair_of variable value = record { variable = variable; value = value }
 
 -- an old value, unless it is any, is a precondition
-abbrev pub keep_old : ℕ → OldValue → Keeping → Keeping
-keep_old variable OldValue.Any k = k
-keep_old variable (OldValue.Is value) k = keep_precondition (pair_of variable value) k
+abbrev pub keep_old : ℕ → Option ℕ → Keeping → Keeping
+keep_old variable None k = k
+keep_old variable (Some value) k = keep_precondition (pair_of variable value) k
 
 abbrev pub effect_kept : Numbers → Keeping → Keeping
 effect_kept said k = keep_effect (pair_of said.first said.second) (keep_old said.first said.old k)
@@ -161,11 +159,11 @@ read_on due said i kept =
 abbrev pub stopped_for : Refusal → Intake → Intake
 stopped_for why i = record { position = i.position; lines = i.lines; verdict = Refused why; kept = i.kept; held = 0 }
 
-abbrev pub after_line : Said → (due : FormatLine) → Intake → Memory → List ℕ → Taken
-after_line (Said.Says said) due i m line =
+abbrev pub after_line : Result Numbers Refusal → (due : FormatLine) → Intake → Memory → List ℕ → Taken
+after_line (Ok said) due i m line =
     let k : KeptBodies = keep_line due said (kept_in i.kept m) in
     taken (read_on due said i k.kept) k.memory line
-after_line (Said.Refused why) due i m line = taken (stopped_for why i) m line
+after_line (Err why) due i m line = taken (stopped_for why i) m line
 
 -- what a reading needs: counts within their limits, and room
 pub record Ready (t : Taken) : Type 0 where
@@ -286,9 +284,9 @@ begun = record { position = first_position; lines = 0; verdict = Accepted; kept 
 -- ---- the end: what is lent for the reading stays as it is
 
 -- a last line is judged and not kept: one that adds something ends no text
-abbrev pub last_said : Said → (due : FormatLine) → Intake → Intake
-last_said (Said.Says said) due i = read_on due said i i.kept
-last_said (Said.Refused why) due i = stopped_for why i
+abbrev pub last_said : Result Numbers Refusal → (due : FormatLine) → Intake → Intake
+last_said (Ok said) due i = read_on due said i i.kept
+last_said (Err why) due i = stopped_for why i
 
 -- what is held of a last line without LF is a line
 unfoldable pub last_line : Taken → Taken

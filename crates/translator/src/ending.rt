@@ -12,7 +12,7 @@ ghost use Rattle.translator.specs.Intake.{memory, Lent, taken, Ready, last_line,
 
 use crate::intake::{Intake, Translation};
 use crate::lines::{last_line, one_more};
-use crate::position::{Position, line_due};
+use crate::position::Position;
 use crate::room::has_room;
 use bodies::{Excess, Kept};
 use reader::limits::PAIR_BYTES;
@@ -21,10 +21,7 @@ use rules::{FormatLine, Refusal, Verdict};
 fn is_end(due: FormatLine) -> bool
     ensures { result ≡ is_end (shape_of due) }
 {
-    match due {
-        FormatLine::EndOfText => true,
-        _ => false,
-    }
+    matches!(due, FormatLine::EndOfText)
 }
 
 // The second verdict where the first accepts.
@@ -41,11 +38,10 @@ fn in_turn(first: Verdict, then: Verdict) -> Verdict
 fn stops_early(position: Position, lines: usize) -> Verdict
     ensures { result ≡ stops_early position lines }
 {
-    if is_end(line_due(position)) {
+    if is_end(position.line_due()) {
         return Verdict::Accepted;
     }
-    let at = one_more(lines);
-    Verdict::Refused(Refusal::AgainstFormat(at))
+    Verdict::Refused(Refusal::AgainstFormat(one_more(lines)))
 }
 
 // Refusals 3 to 7 on what is kept.
@@ -53,15 +49,11 @@ fn rules_kept(kept: Kept, sizes: &[u8], start: &[u8], goal: &[u8], actions: &[u8
     requires { Sound kept × Lent (memory sizes.now start.now goal.now actions.now) }
     ensures { result ≡ rules_kept kept (memory sizes.now start.now goal.now actions.now) }
 {
-    let n = kept.sizes;
-    let starts = kept.starts;
-    let pairs = PAIR_BYTES * kept.goals;
-    let bytes = kept.bytes;
     reader::file::bodies_verdict(
-        &sizes[..n],
-        &start[..starts],
-        &goal[..pairs],
-        &actions[..bytes],
+        &sizes[..kept.sizes],
+        &start[..kept.starts],
+        &goal[..PAIR_BYTES * kept.goals],
+        &actions[..kept.bytes],
     )
 }
 
@@ -139,16 +131,12 @@ fn write_kept(
     requires { Sound kept × Lent (memory sizes.now start.now goal.now actions.now) × (length (file_kept kept (memory sizes.now start.now goal.now actions.now)) ≤ length room.old) }
     ensures { (result ≡ length (file_kept kept (memory sizes.now start.now goal.now actions.now))) × (room.new ≡ lent_after Accepted (file_kept kept (memory sizes.now start.now goal.now actions.now)) room.old) }
 {
-    let n = kept.sizes;
-    let starts = kept.starts;
-    let pairs = PAIR_BYTES * kept.goals;
-    let bytes = kept.bytes;
     writer::write_file(
         room,
-        &sizes[..n],
-        &start[..starts],
-        &goal[..pairs],
-        &actions[..bytes],
+        &sizes[..kept.sizes],
+        &start[..kept.starts],
+        &goal[..PAIR_BYTES * kept.goals],
+        &actions[..kept.bytes],
     )
 }
 

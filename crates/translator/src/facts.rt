@@ -8,7 +8,6 @@ ghost use Rattle.translator.specs.Facts.{among_facts, one_read, fact_ends, AllRe
 use crate::holding::hold;
 use crate::intake::{Further, Intake};
 use crate::lines::one_more;
-use crate::position::repeated;
 use rules::{FormatLine, Verdict};
 
 // How far the facts of a group are read: the next byte that is not taken, how many bytes of a line are held, how many facts are left, how many lines
@@ -51,7 +50,7 @@ fn read_facts(line: &mut [u8], bytes: &[u8], first: Facts) -> Facts
     ensures { AllRead bytes.now first line.old result line.new }
 {
     let mut facts = first;
-    while 0 < facts.left {
+    for _ in 0..first.left {
         let stop = hold(line, facts.held, bytes, facts.at);
         facts.at = stop.at;
         facts.held = stop.held;
@@ -66,13 +65,12 @@ fn read_facts(line: &mut [u8], bytes: &[u8], first: Facts) -> Facts
 fn among_facts(state: Intake, facts: Facts) -> Intake
     ensures { result ≡ among_facts facts state }
 {
-    let kept = state.kept;
     Intake {
-        position: repeated(FormatLine::MutexFact, facts.left, state.position),
+        position: state.position.repeated(FormatLine::MutexFact, facts.left),
         lines: facts.lines,
         verdict: Verdict::Accepted,
-        kept,
         held: facts.held,
+        ..state
     }
 }
 
@@ -82,11 +80,10 @@ pub(crate) fn group_facts(state: Intake, line: &mut [u8], bytes: &[u8], at: usiz
     requires rooms { (state.held ≤ head_room) × (head_room ≤ length line.old) × (at ≤ length bytes.now) }
     ensures { FactsTaken state line.old bytes.now at result.reading result.at line.new }
 {
-    let position = state.position;
     let first = Facts {
         at,
         held: state.held,
-        left: position.inner,
+        left: state.position.inner,
         lines: state.lines,
     };
     let facts = read_facts(line, bytes, first);

@@ -8,7 +8,7 @@ ghost use Rattle.translator.specs.Intake.{memory, head_room, taken, Ready, with_
 use crate::facts::group_facts;
 use crate::holding::hold;
 use crate::lines::end_line;
-use crate::position::{Position, first_position};
+use crate::position::Position;
 use crate::room::has_room;
 use bodies::Kept;
 use rules::{FormatLine, Refusal, Verdict};
@@ -43,7 +43,7 @@ pub fn begin() -> Intake
     ensures { result ≡ begun }
 {
     Intake {
-        position: first_position(),
+        position: Position::first(),
         lines: 0,
         verdict: Verdict::Accepted,
         kept: bodies::nothing_kept(),
@@ -87,11 +87,9 @@ fn reach_line(state: Intake, line: &mut [u8], bytes: &[u8], at: usize) -> Furthe
     let Verdict::Accepted = verdict else {
         return hold_line(state, line, bytes, at);
     };
-    let position = state.position;
-    let due = position.line;
-    let FormatLine::MutexFact = due else {
+    if !matches!(state.position.line, FormatLine::MutexFact) {
         return hold_line(state, line, bytes, at);
-    };
+    }
     let behind = group_facts(state, line, bytes, at);
     hold_line(behind.reading, line, bytes, behind.at)
 }
@@ -127,14 +125,9 @@ fn take_line(
 fn refused_for_room(state: Intake) -> Intake
     ensures { result ≡ refused_for (Refused Room) state }
 {
-    let position = state.position;
-    let kept = state.kept;
     Intake {
-        position,
-        lines: state.lines,
         verdict: Verdict::Refused(Refusal::Room),
-        kept,
-        held: state.held,
+        ..state
     }
 }
 
@@ -163,6 +156,7 @@ pub fn take_bytes(
     }
     let mut reading = state;
     let mut at = 0;
+    // The position jumps by as many bytes as were taken.
     while at < bytes.len() {
         let further = take_line(bytes, at, reading, sizes, start, goal, actions, line);
         reading = further.reading;

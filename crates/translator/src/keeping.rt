@@ -5,17 +5,17 @@ ghost use Rattle.translator.specs.Intake.{memory, Lent, kept_in, effect_kept, ke
 
 use bodies::Kept;
 use rules::FormatLine;
-use textlines::{Numbers, OldValue};
+use textlines::Numbers;
 
 // An old value, unless it is any, is a precondition.
-fn keep_old(variable: usize, old: OldValue, kept: Kept, actions: &mut [u8]) -> Kept
+fn keep_old(variable: usize, old: Option<usize>, kept: Kept, actions: &mut [u8]) -> Kept
     requires { Sound kept × (actions_room ≤ length actions.old) }
     ensures actions_after { keeps result actions.new ≡ keep_old variable old (keeps kept actions.old) }
     ensures sound { Sound result }
 {
     match old {
-        OldValue::Any => kept,
-        OldValue::Is(value) => bodies::keep_precondition(kept, actions, variable, value),
+        None => kept,
+        Some(value) => bodies::keep_precondition(kept, actions, variable, value),
     }
 }
 
@@ -25,8 +25,7 @@ fn keep_change(said: Numbers, kept: Kept, actions: &mut [u8]) -> Kept
     ensures actions_after { keeps result actions.new ≡ effect_kept said (keeps kept actions.old) }
     ensures sound { Sound result }
 {
-    let old = said.old;
-    let before = keep_old(said.first, old, kept, actions);
+    let before = keep_old(said.first, said.old, kept, actions);
     bodies::keep_effect(before, actions, said.first, said.second)
 }
 

@@ -5,21 +5,31 @@ ghost use Rattle.translator.specs.Intake.{Memory, memory, Lent, kept_in, keep_li
 
 use crate::intake::Intake;
 use crate::keeping::keep_line;
-use crate::position::{line_due, moved_on};
+use bodies::Kept;
 use rules::{FormatLine, Refusal, Verdict};
-use textlines::{Numbers, Said};
+use textlines::Numbers;
 
 // A count of lines stays at the largest number that there is.
 pub(crate) fn one_more(lines: usize) -> usize
     ensures { result ≡ one_more lines }
 {
-    if lines == usize::MAX {
-        return lines;
-    }
-    lines + 1
+    lines.saturating_add(1)
 }
 
-// A line that was in order has been read: what it adds is kept, and the next is due.
+// A line that was in order has been read, and so much is kept: the next is due.
+fn read(state: Intake, due: FormatLine, said: Numbers, kept: Kept) -> Intake
+    ensures { result ≡ read_on due said state kept }
+{
+    Intake {
+        position: state.position.moved_on(due, said.first),
+        lines: one_more(state.lines),
+        verdict: Verdict::Accepted,
+        kept,
+        held: 0,
+    }
+}
+
+// A line that was in order is read, and what it adds is kept.
 fn read_on(
     state: Intake,
     due: FormatLine,
@@ -34,30 +44,18 @@ fn read_on(
     ensures kept { kept_in result.kept (memory sizes.new start.new goal.new actions.new) ≡ keep_line due said (kept_in state.kept (memory sizes.old start.old goal.old actions.old)) }
     ensures sound { Sound result.kept }
 {
-    let position = moved_on(due, said.first, state.position);
-    let lines = one_more(state.lines);
     let kept = keep_line(due, said, state.kept, sizes, start, goal, actions);
-    Intake {
-        position,
-        lines,
-        verdict: Verdict::Accepted,
-        kept,
-        held: 0,
-    }
+    read(state, due, said, kept)
 }
 
 // A line that was against the rules ends the reading.
 fn stopped(state: Intake, why: Refusal) -> Intake
     ensures { result ≡ stopped_for why state }
 {
-    let position = state.position;
-    let kept = state.kept;
     Intake {
-        position,
-        lines: state.lines,
         verdict: Verdict::Refused(why),
-        kept,
         held: 0,
+        ..state
     }
 }
 
@@ -65,7 +63,7 @@ fn stopped(state: Intake, why: Refusal) -> Intake
 fn after_line(
     state: Intake,
     due: FormatLine,
-    said: Said,
+    said: Result<Numbers, Refusal>,
     sizes: &mut [u8],
     start: &mut [u8],
     goal: &mut [u8],
@@ -76,8 +74,8 @@ fn after_line(
     ensures fits { Sound result.kept × (result.held ≤ head_room) }
 {
     match said {
-        Said::Refused(why) => stopped(state, why),
-        Said::Says(numbers) => read_on(state, due, numbers, sizes, start, goal, actions),
+        Err(why) => stopped(state, why),
+        Ok(numbers) => read_on(state, due, numbers, sizes, start, goal, actions),
     }
 }
 
@@ -99,34 +97,18 @@ pub(crate) fn end_line(
         return state;
     };
     let held = state.held;
-    let due = line_due(state.position);
+    let due = state.position.line_due();
     let said = textlines::says(due, one_more(state.lines), &line[..held]);
     after_line(state, due, said, sizes, start, goal, actions)
 }
 
-// A last line that was in order has been read: it ends the text, or the text stops early, and what it adds matters to neither.
-fn read_last(state: Intake, due: FormatLine, said: Numbers) -> Intake
-    ensures { result ≡ read_on due said state state.kept }
-{
-    let position = moved_on(due, said.first, state.position);
-    let lines = one_more(state.lines);
-    let kept = state.kept;
-    Intake {
-        position,
-        lines,
-        verdict: Verdict::Accepted,
-        kept,
-        held: 0,
-    }
-}
-
-// What a last line said decides.
-fn last_said(state: Intake, due: FormatLine, said: Said) -> Intake
+// What a last line said decides. One that was in order ends the text, or the text stops early, and what it adds matters to neither.
+fn last_said(state: Intake, due: FormatLine, said: Result<Numbers, Refusal>) -> Intake
     ensures { result ≡ last_said said due state }
 {
     match said {
-        Said::Refused(why) => stopped(state, why),
-        Said::Says(numbers) => read_last(state, due, numbers),
+        Err(why) => stopped(state, why),
+        Ok(numbers) => read(state, due, numbers, state.kept),
     }
 }
 
@@ -144,7 +126,7 @@ pub(crate) fn last_line(state: Intake, line: &[u8]) -> Intake
     let Verdict::Accepted = verdict else {
         return state;
     };
-    let due = line_due(state.position);
+    let due = state.position.line_due();
     let said = textlines::says(due, one_more(state.lines), &line[..held]);
     last_said(state, due, said)
 }

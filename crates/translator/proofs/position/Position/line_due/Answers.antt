@@ -2,7 +2,7 @@
 -- Assumes nothing.
 use borrow.Author.Rules.{rules}
 use Rattle.translator.proofs.PositionLaws.{due_in_lem, due_once}
-use Rattle.translator.proofs.position.line_due.Goals as goal
+use Rattle.translator.proofs.position.Position.line_due.Goals as goal
 
 pub returns-in-BeginVariable : goal.returns-in-BeginVariable
 returns-in-BeginVariable c = search (rules, due_in_lem)
