@@ -15,12 +15,6 @@ use Rattle.textlines.specs.Says.{old_in, is_signed, is_effect}
 -- ---- a word by its place
 
 module _ (line w : List ℕ) (i : ℕ) (word : w ≡ word_at line i) where
-  pub plain_at : (r : Bool) → r ≡ is_plain w → r ≡ is_plain (word_at line i)
-  plain_at r e = e ∙ ap is_plain word
-
-  pub plain_there : is_plain (word_at line i) ≡ true → is_plain w ≡ true
-  plain_there t = ap is_plain word ∙ t
-
   pub value_at : (m : ℕ) → m ≡ value_from 0 w → m ≡ number_at line i
   unfolding number_at
   value_at m e = e ∙ ap (value_from 0) word
@@ -65,9 +59,6 @@ module _ (line : List ℕ) (b : Bool) (is : b ≡ is_effect line) (t : not b ≡
 -- ---- the old value
 
 module _ (line w : List ℕ) (word : w ≡ word_at line 2) (b : Bool) (minus : b ≡ is_minus_one w) where
-  pub old_any : b ≡ true → None ≡ old_in line
-  old_any t = rw (sym (minus ∙ ap is_minus_one word) ∙ t)
-
   module _ (t : b ≡ false) where
     pub old_plain : is_signed (word_at line 2) ≡ true → is_plain w ≡ true
     unfolding is_signed

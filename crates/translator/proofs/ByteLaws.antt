@@ -62,9 +62,6 @@ module _ (bytes : List ℕ) (at held : ℕ) (line : List ℕ) where
     pub up_to-lf : at ≤ n → n < length bytes → get_or bytes n 0 ≡ lf → h ≤ head_room → HeldUpTo bytes at held line n h l
     up_to-lf f k e r = record { from = f; within = omega arith; ends = λ z. e; fits = r; rest = rest }
 
-    pub up_to-end : at ≤ n → n ≤ length bytes → length bytes ≤ n → h ≤ head_room → HeldUpTo bytes at held line n h l
-    up_to-end f w k r = record { from = f; within = w; ends = λ z. absurd (omega arith); fits = r; rest = rest }
-
     pub up_to-passed : (n' end : ℕ) → n' ≡ n → at ≤ n → h ≡ head_room → PassedUpTo bytes n' end → HeldUpTo bytes at held line end head_room l
     unfolding SameRest Passed
     up_to-passed n' end same f full behind =

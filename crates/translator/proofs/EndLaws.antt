@@ -45,48 +45,6 @@ use Rattle.translator.proofs.RoomLaws.{room_ready}
 pub end_line_lem : (due : FormatLine) → due ≡ EndOfText → true ≡ is_end (shape_of due)
 end_line_lem due e = rw e
 
--- the numbers of all lines but the end
-abbrev others : List ℕ
-others = 0 ∷ 1 ∷ 2 ∷ 3 ∷ 4 ∷ 5 ∷ 6 ∷ 7 ∷ 8 ∷ 9 ∷ 10 ∷ 11 ∷ 12 ∷ 13 ∷ 14 ∷ 15 ∷ 16 ∷ 17 ∷ 18 ∷ 19 ∷ 20 ∷ 21 ∷ 22 ∷ 23 ∷ 24 ∷ 25 ∷ 26 ∷ 27 ∷ 28 ∷ 29 ∷ 30 ∷ 31 ∷ 32 ∷ 33 ∷ 34 ∷ []
-
-pub other_line : (due : FormatLine) → OneOf others (tag_of the_type due) → false ≡ is_end (shape_of due)
-other_line BeginVersion h = refl
-other_line Version h = refl
-other_line EndVersion h = refl
-other_line BeginMetric h = refl
-other_line Metric h = refl
-other_line EndMetric h = refl
-other_line VariableCount h = refl
-other_line BeginVariable h = refl
-other_line VariableName h = refl
-other_line AxiomLayer h = refl
-other_line Range h = refl
-other_line AtomName h = refl
-other_line EndVariable h = refl
-other_line MutexGroupCount h = refl
-other_line BeginMutexGroup h = refl
-other_line MutexFactCount h = refl
-other_line MutexFact h = refl
-other_line EndMutexGroup h = refl
-other_line BeginState h = refl
-other_line StateValue h = refl
-other_line EndState h = refl
-other_line BeginGoal h = refl
-other_line GoalCount h = refl
-other_line GoalFact h = refl
-other_line EndGoal h = refl
-other_line OperatorCount h = refl
-other_line BeginOperator h = refl
-other_line OperatorName h = refl
-other_line PrevailCount h = refl
-other_line PrevailCondition h = refl
-other_line EffectCount h = refl
-other_line Effect h = refl
-other_line Cost h = refl
-other_line EndOperator h = refl
-other_line AxiomCount h = refl
-other_line EndOfText h = absurd (miss others 35 tt h)
-
 module _ (p : Position) (lines : ℕ) (due : FormatLine) (d : due ≡ line_due p) (ends : Bool) (e : ends ≡ is_end (shape_of due)) where
   pub at_end : ends ≡ true → Accepted ≡ stops_early p lines
   unfolding stops_early

@@ -114,10 +114,6 @@ module _ (bytes : List ℕ) (first : Facts) (line : List ℕ) where
 abbrev as_it_is : Intake → FormatLine → Verdict → Intake
 as_it_is i due verdict = record { position = to due i.position; lines = i.lines; verdict = verdict; kept = i.kept; held = i.held }
 
-pub among_is : (f : Facts) (i : Intake) (p : Position) → p ≡ repeated MutexFact f.left i.position
-    → ◌≡◌ {A = Intake} (record { position = p; lines = f.lines; verdict = Accepted; kept = i.kept; held = f.held }) (among_facts f i)
-among_is f i p e = rw e
-
 module _ (i : Intake) (line bytes : List ℕ) (at : ℕ) where
   stands : i.verdict ≡ Accepted → i.position.line ≡ MutexFact → among_facts (facts at i.held i.position.inner i.lines) i ≡ i
   stands v d = ap₂ (as_it_is i) (sym d) (sym v)

@@ -27,11 +27,6 @@ begun_is p k e f = rw (e, f)
 pub held_length : (line : List ℕ) (held room : ℕ) → room ≤ length line → held ≤ room → held ≡ length (take held line)
 held_length line held room h k = sym (length-take-le held line (omega arith))
 
-pub read_on-is : (due : FormatLine) (said : Numbers) (i : Intake) (kept : Kept) (p : Position) (lines : ℕ)
-    → p ≡ moved_on due said.first i.position → lines ≡ one_more i.lines
-    → ◌≡◌ {A = Intake} (record { position = p; lines = lines; verdict = Accepted; kept = kept; held = 0 }) (read_on due said i kept)
-read_on-is due said i kept p lines e f = rw (e, f)
-
 module _ (said : Result Numbers Refusal) (due : FormatLine) (i r : Intake) (m : Memory) where
   pub after_refused : (why : Refusal) → said ≡ Err why → r ≡ stopped_for why i → (line : List ℕ) → taken r m line ≡ after_line said due i m line
   after_refused why w e line = rw (w, e)

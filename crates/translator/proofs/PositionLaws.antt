@@ -74,14 +74,5 @@ due_once p h = single_due p.line p.inner p.outer h
 
 -- ---- the position behind a line
 
-module _ (line : FormatLine) (p : Position) (left : ℕ) where
-  pub again_is : left ≡ p.inner - 1
-      → ◌≡◌ {A = Position} (record { line = line; inner = left; outer = p.outer; variables = p.variables }) (again line p)
-  again_is e = rw e
-
-  pub around_is : left ≡ p.outer - 1
-      → ◌≡◌ {A = Position} (record { line = line; inner = p.inner; outer = left; variables = p.variables }) (around line p)
-  around_is e = rw e
-
 pub moved_in : (line w : FormatLine) (m : ℕ) (p r : Position) → line ≡ w → r ≡ moved_on w m p → r ≡ moved_on line m p
 moved_in line w m p r e h = rw e h

@@ -35,6 +35,7 @@ fn in_turn(first: Verdict, then: Verdict) -> Verdict
 }
 
 // A text that stops early is at fault at the line after its last.
+#[tactic(auto, unfolding(crate::specs::Intake::stops_early, rules::specs::Answers::judge))]
 fn stops_early(position: Position, lines: usize) -> Verdict
     ensures { result ≡ stops_early position lines }
 {
@@ -45,6 +46,7 @@ fn stops_early(position: Position, lines: usize) -> Verdict
 }
 
 // Refusals 3 to 7 on what is kept.
+#[tactic(auto, unfolding(crate::specs::Intake::rules_kept))]
 fn rules_kept(kept: Kept, sizes: &[u8], start: &[u8], goal: &[u8], actions: &[u8]) -> Verdict
     requires { Sound kept × Lent (memory sizes.now start.now goal.now actions.now) }
     ensures { result ≡ rules_kept kept (memory sizes.now start.now goal.now actions.now) }
@@ -58,6 +60,7 @@ fn rules_kept(kept: Kept, sizes: &[u8], start: &[u8], goal: &[u8], actions: &[u8
 }
 
 // Refusal 10, where so many bytes are needed.
+#[tactic(auto, unfolding(rules::specs::Answers::judge))]
 fn room_verdict(needed: usize, room: usize) -> Verdict
     ensures { result ≡ judge (room_rule needed room) }
 {
@@ -102,6 +105,7 @@ fn verdict_kept(
 }
 
 // Refusals 30 to 32, then those.
+#[tactic(auto, unfolding(crate::specs::Intake::verdict_at_end))]
 fn end_verdict(
     state: Intake,
     sizes: &[u8],
@@ -120,6 +124,7 @@ fn end_verdict(
 }
 
 // Writes the file of what is kept, and answers its length.
+#[tactic(auto, unfolding(crate::specs::Intake::file_kept))]
 fn write_kept(
     kept: Kept,
     sizes: &[u8],
@@ -163,6 +168,7 @@ fn end_with(
 }
 
 // The end of a reading that has room: its last line, then the answer.
+#[tactic(auto, unfolding(crate::specs::Intake::end_with, crate::specs::Intake::end_verdict))]
 fn end_reading(
     state: Intake,
     sizes: &[u8],
@@ -180,6 +186,7 @@ fn end_reading(
 }
 
 // Whether what is lent is room for a reading.
+#[tactic(auto, unfolding(crate::specs::Intake::has_room))]
 fn has_room_for(
     state: Intake,
     sizes: &[u8],
@@ -202,6 +209,7 @@ fn has_room_for(
 }
 
 // The end of a text: its task file in the room, or the refusal, which leaves the room as found.
+#[tactic(auto, unfolding(crate::specs::Intake::finish_call))]
 pub fn finish(
     state: Intake,
     sizes: &[u8],

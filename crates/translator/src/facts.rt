@@ -21,6 +21,7 @@ pub(crate) struct Facts {
 }
 
 // Whether what is held is a fact and ends at a place.
+#[tactic(auto, unfolding(crate::specs::Facts::fact_ends))]
 fn fact_ends(line: &[u8], held: usize, bytes: &[u8], at: usize) -> bool
     requires { (held ≤ head_room) × (head_room ≤ length line.now) }
     ensures { result ≡ fact_ends bytes.now at held line.now }
@@ -32,6 +33,7 @@ fn fact_ends(line: &[u8], held: usize, bytes: &[u8], at: usize) -> bool
 }
 
 // A fact has ended before a place.
+#[tactic(auto, unfolding(crate::specs::Facts::one_read))]
 fn one_read(facts: Facts, next: usize) -> Facts
     requires { 0 < facts.left }
     ensures { result ≡ one_read next facts }

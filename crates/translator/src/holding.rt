@@ -19,6 +19,7 @@ pub(crate) struct Stop {
 }
 
 // Whether there is no LF in a quarter of a block: each byte is looked at whatever the others are, so that a processor can compare a whole block at once.
+#[tactic(auto, unfolding(crate::specs::Intake::no_lf))]
 fn no_lf_in_quarter(bytes: &[u8], at: usize) -> bool
     requires { at + quarter_block ≤ length bytes.now }
     ensures { result ≡ no_lf bytes.now at quarter_block }
@@ -49,6 +50,7 @@ fn no_lf_in_block(bytes: &[u8], at: usize) -> bool
 }
 
 // Whether a whole block of the line goes on at a place.
+#[tactic(auto, unfolding(crate::specs::Intake::block_passes))]
 fn block_passes(bytes: &[u8], at: usize) -> bool
     requires { at ≤ length bytes.now }
     ensures { result ≡ block_passes bytes.now at }

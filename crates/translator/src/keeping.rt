@@ -30,6 +30,7 @@ fn keep_change(said: Numbers, kept: Kept, actions: &mut [u8]) -> Kept
 }
 
 // What a line adds.
+#[tactic(auto, unfolding(crate::specs::Intake::keep_line))]
 pub(crate) fn keep_line(
     due: FormatLine,
     said: Numbers,

@@ -80,6 +80,7 @@ fn after_line(
 }
 
 // The line that is held ends: it is judged as the line that is due.
+#[tactic(auto, unfolding(crate::specs::Intake::end_line))]
 pub(crate) fn end_line(
     state: Intake,
     sizes: &mut [u8],
@@ -113,6 +114,7 @@ fn last_said(state: Intake, due: FormatLine, said: Result<Numbers, Refusal>) -> 
 }
 
 // What is held of a last line without LF is a line; it is judged and not kept.
+#[tactic(auto, unfolding(crate::specs::Intake::last_line))]
 pub(crate) fn last_line(state: Intake, line: &[u8]) -> Intake
     requires { (state.held ≤ head_room) × (head_room ≤ length line.now) }
     ensures last { (m : Memory) → taken result m line.now ≡ last_line (taken state m line.now) }

@@ -38,6 +38,7 @@ impl Position {
     }
 
     // The line that is due here.
+    #[tactic(auto, unfolding(crate::specs::Position::line_due))]
     pub(crate) fn line_due(self) -> FormatLine
         ensures { result ≡ line_due self }
     {

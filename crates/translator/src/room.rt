@@ -17,6 +17,7 @@ pub const ACTIONS_ROOM: usize = (MAX_ACTIONS + 1) * MAX_ACTION;
 // Room for the first bytes of a line, which decide it.
 pub const HEAD_ROOM: usize = 32;
 
+#[tactic(auto, unfolding(crate::specs::Intake::actions_fit))]
 fn actions_fit(actions: usize, bytes: usize) -> bool
     ensures { result ≡ actions_fit actions bytes }
 {
@@ -27,6 +28,7 @@ fn actions_fit(actions: usize, bytes: usize) -> bool
 }
 
 // No count is over its limit.
+#[tactic(auto, unfolding(crate::specs::Intake::counts_fit))]
 fn counts_fit(kept: Kept) -> bool
     ensures { result ≡ counts_fit kept }
 {
@@ -39,6 +41,7 @@ fn counts_fit(kept: Kept) -> bool
 }
 
 // So many bytes are room for the bodies and for a line.
+#[tactic(auto, unfolding(crate::specs::Intake::lent_fits))]
 fn lent_fits(sizes: usize, start: usize, goal: usize, actions: usize, line: usize) -> bool
     ensures { result ≡ lent_fits sizes start goal actions line }
 {
@@ -50,6 +53,7 @@ fn lent_fits(sizes: usize, start: usize, goal: usize, actions: usize, line: usiz
 }
 
 // A reading with these counts and so many bytes held has room.
+#[tactic(auto, unfolding(crate::specs::Intake::room_for))]
 pub(crate) fn has_room(
     kept: Kept,
     held: usize,

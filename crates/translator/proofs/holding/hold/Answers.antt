@@ -2,7 +2,7 @@
 use Prim.Native.Nat.{◌+◌}
 use native.Mathlib.Omega.{arith}
 use borrow.Author.Rules.{rules}
-use Rattle.translator.proofs.ByteLaws.{rest_start, rest_held, up_to-lf, up_to-end, up_to-passed}
+use Rattle.translator.proofs.ByteLaws.{rest_start, rest_held, up_to-lf, up_to-passed}
 use Rattle.translator.proofs.holding.hold.Goals as goal
 
 pub loop-i-init : goal.loop-i-init
