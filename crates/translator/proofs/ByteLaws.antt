@@ -8,7 +8,7 @@ use mathlib.Core.Logic.{◌≢◌}
 use native.Mathlib.Omega.{arith}
 use native.Mathlib.Nat.{add-zero, add-suc}
 use native.Mathlib.Numerals.{add-one}
-use borrow.Author.Tests.{eq-eqb, ne_eqb, le-leb, lt-leb, leb-true}
+use borrow.Author.Tests.{eq-eqb, ne_eqb, le-leb, leb-true}
 use lib.Dec.{eqb, leb}
 use lib.ListN.{length, get_or, take, drop, set, length-drop, drop_of_length-le}
 use lib.Seq.{drop-cons, get_or-drop, take_all as take_whole}
@@ -20,8 +20,7 @@ use Rattle.rules.specs.declared.Refusal.{Refusal}
 use Rattle.rules.specs.declared.Refusal.TheVariants.{Room}
 use Rattle.rules.specs.declared.Verdict.TheVariants.{Accepted, Refused}
 use Rattle.rules.proofs.Bools.{clash, and_left, and_right, not_true, not_false}
-use Rattle.bodies.specs.Keeping.{Sound}
-use Rattle.translator.specs.Intake.{Memory, head_room, Taken, taken, Ready, end_line, with_held, take_byte, take_all, SameRest, HeldUpTo, Passed, no_lf, block, half_block, quarter_block, block_passes, PassedUpTo, HeldLine, room_for, has_room, refused_for, take_call}
+use Rattle.translator.specs.Intake.{Memory, head_room, Taken, taken, end_line, with_held, take_byte, take_all, SameRest, HeldUpTo, Passed, no_lf, block, half_block, quarter_block, block_passes, PassedUpTo, HeldLine, room_for, has_room, refused_for, take_call}
 use Rattle.translator.specs.declared.intake.Intake.{Intake}
 use Rattle.translator.proofs.InPieces.{bytes_stay, byte_ends, byte_held, byte_passed}
 
@@ -93,22 +92,12 @@ module _ (bytes : List ℕ) (at : ℕ) where
       rw (add-suc m n)
       (ap₂ (λ b k. b && not (eqb (get_or bytes k 0) lf)) (no_lf-more m n) place ∙ and_turned (no_lf bytes at m) (no_lf bytes (at + m) n) _)
 
-  pub no_lf-quarter :
-      (not (eqb (get_or bytes at 0) lf) && not (eqb (get_or bytes (at + 1) 0) lf) && not (eqb (get_or bytes (at + 2) 0) lf) && not (eqb (get_or bytes (at + 3) 0) lf))
-      ≡ no_lf bytes at quarter_block
-  unfolding no_lf
-  no_lf-quarter = rw (add-zero at)
-
   module _ (a b : Bool) where
     pub no_lf-half : a ≡ no_lf bytes at quarter_block → b ≡ no_lf bytes (at + quarter_block) quarter_block → (a && b) ≡ no_lf bytes at half_block
     no_lf-half e f = ap₂ ◌&&◌ e f ∙ sym (no_lf-more quarter_block quarter_block)
 
     pub no_lf-block : a ≡ no_lf bytes at half_block → b ≡ no_lf bytes (at + half_block) half_block → (a && b) ≡ no_lf bytes at block
     no_lf-block e f = ap₂ ◌&&◌ e f ∙ sym (no_lf-more half_block half_block)
-
-  pub no_block : at ≤ length bytes → length bytes - at < block → false ≡ block_passes bytes at
-  unfolding block_passes
-  no_block w h = ap (λ b. b && no_lf bytes at block) (sym (lt-leb (at + block) (length bytes) (omega arith)))
 
   pub block_passes_lem : (r : Bool) → block ≤ length bytes - at → r ≡ no_lf bytes at block → r ≡ block_passes bytes at
   unfolding block_passes
@@ -208,15 +197,9 @@ module _ (i : Intake) (line bytes : List ℕ) (at : ℕ) where
         rest = λ m. ap (λ b. take_all (taken b m l) (drop end bytes)) e ∙ u.rest i m v;
       }
 
-  pub held_sound : (then : Intake) (end : ℕ) (l : List ℕ) → HeldLine i line bytes at then end l → Sound i.kept → Sound then.kept
-  held_sound then end l w k = rw w.kept k
-
   module _ (then : Intake) (end : ℕ) (l : List ℕ) (w : HeldLine i line bytes at then end l) (m : Memory) where
     pub further_end : take_all (taken then m l) (drop end bytes) ≡ take_all (taken i m line) (drop at bytes)
     further_end = w.rest m
-
-    pub held_ready : length l ≡ length line → Ready (taken i m line) → Ready (taken then m l)
-    held_ready e r = record { kept = rw w.kept r.kept; held = w.fits; lent = r.lent; line = omega (arith, e, r.line) }
 
     pub further_line : (r : Intake) (after : Memory) → end < length bytes → taken r after l ≡ end_line (taken then m l)
         → take_all (taken r after l) (drop (end + 1) bytes) ≡ take_all (taken i m line) (drop at bytes)

@@ -1,10 +1,10 @@
 -- Room: the tests together are the definition's, and what they say of a reading.
 -- Assumes nothing.
-use Prim.Native.Nat.{ℕ, ◌*◌, ◌≤◌, ◌<◌}
-use mathlib.Core.Path.{◌≡◌, refl, sym, ◌∙◌}
+use Prim.Native.Nat.{ℕ, ◌*◌, ◌≤◌}
+use mathlib.Core.Path.{◌≡◌, sym, ◌∙◌}
 use mathlib.Core.Bool.{Bool, true, false, not, ◌&&◌}
 use mathlib.Core.List.{List}
-use borrow.Author.Tests.{leb-true, le-leb, lt-leb}
+use borrow.Author.Tests.{leb-true}
 use lib.Dec.{leb}
 use lib.ListN.{length}
 use Rattle.rules.specs.Limits.{max_variables, max_goals, max_actions, max_pairs, max_action}
@@ -13,29 +13,6 @@ use Rattle.bodies.specs.declared.Kept.{Kept}
 use Rattle.bodies.specs.Keeping.{Sound, goal_room, actions_room}
 use Rattle.translator.specs.Intake.{Memory, Lent, head_room, taken, Ready, actions_fit, counts_fit, lent_fits, room_for}
 use Rattle.translator.specs.declared.intake.Intake.{Intake}
-
-pub many_actions : (actions bytes : ℕ) → max_actions < actions → false ≡ actions_fit actions bytes
-unfolding actions_fit
-many_actions actions bytes h = rw (lt-leb actions max_actions h)
-
-pub few_actions : (actions bytes : ℕ) → actions ≤ max_actions → leb bytes (max_action * actions) ≡ actions_fit actions bytes
-unfolding actions_fit
-few_actions actions bytes h = rw (le-leb actions max_actions h)
-
-pub counts_are : (k : Kept) (a : Bool) → a ≡ actions_fit k.actions k.bytes
-    → (leb k.sizes max_variables && leb k.starts max_variables && leb k.goals max_goals && a && leb k.preconditions max_pairs && leb k.effects max_pairs) ≡ counts_fit k
-unfolding counts_fit
-counts_are k a e = rw e
-
-pub lent_is : (sizes start goal actions line : ℕ)
-    → (leb max_variables sizes && leb max_variables start && leb goal_room goal && leb actions_room actions && leb head_room line) ≡ lent_fits sizes start goal actions line
-unfolding lent_fits
-lent_is sizes start goal actions line = refl
-
-pub room_is : (k : Kept) (held sizes start goal actions line : ℕ) (a b : Bool) → a ≡ counts_fit k → b ≡ lent_fits sizes start goal actions line
-    → (a && leb held head_room && b) ≡ room_for k held sizes start goal actions line
-unfolding room_for
-room_is k held sizes start goal actions line a b e f = rw (e, f)
 
 -- ---- what the tests say
 

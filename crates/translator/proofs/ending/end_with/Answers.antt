@@ -1,7 +1,7 @@
 -- `end_with` meets its contract.
 -- Assumes nothing.
 use borrow.Author.Rules.{rules}
-use Rattle.translator.proofs.EndLaws.{file_holds, ends_refused, ends_written}
+use Rattle.translator.proofs.EndLaws.{file_holds}
 use Rattle.translator.proofs.ending.end_with.Goals as goal
 
 pub write_kept-requires : goal.write_kept-requires

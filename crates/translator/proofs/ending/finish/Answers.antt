@@ -1,7 +1,7 @@
 -- `finish` meets its contract.
 -- Assumes nothing.
 use borrow.Author.Rules.{rules}
-use Rattle.translator.proofs.EndLaws.{has_ready, finish_short, finish_ends}
+use Rattle.translator.proofs.EndLaws.{has_ready}
 use Rattle.translator.proofs.ending.finish.Goals as goal
 
 pub end_reading-requires : goal.end_reading-requires

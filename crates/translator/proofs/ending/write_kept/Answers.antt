@@ -1,7 +1,7 @@
 -- `write_kept` meets its contract.
 -- Assumes nothing.
 use borrow.Author.Rules.{rules}
-use Rattle.translator.proofs.EndLaws.{sizes_part, start_part, goal_part, actions_part, file_within, file_room, file_long, file_left}
+use Rattle.translator.proofs.EndLaws.{file_within, file_room, file_long, file_left}
 use Rattle.translator.proofs.ending.write_kept.Goals as goal
 
 pub write_file-requires : goal.write_file-requires

@@ -14,12 +14,11 @@ pub overflow_add-facts : goal.overflow_add-facts
 overflow_add-facts c = search (rules, fact_within)
 
 pub loop-preserved : goal.loop-preserved
-loop-preserved c =
-    (
-      omega (arith, one_less _ _ _ c.one_read-facts.ensures),
-      facts_next _ _ _ c.loop.facts c.loop.line c.loop.invariant.1 c.hold-stop.result.at c.hold-stop.result.held c.hold-stop.new.line c.hold-stop.ensures
+loop-preserved c = (
+  omega (arith, one_less _ _ _ c.one_read-facts.ensures),
+  facts_next _ _ _ c.loop.facts c.loop.line c.loop.invariant.1 c.hold-stop.result.at c.hold-stop.result.held c.hold-stop.new.line c.hold-stop.ensures
       c.fact_ends.result c.fact_ends.ensures (search rules) (omega arith) c.one_read-facts.result c.one_read-facts.ensures,
-    )
+)
 
 pub returns : goal.returns
 returns c = search (rules, none_left)

@@ -1,7 +1,7 @@
 -- `take_line` meets its contract.
 -- Assumes nothing.
 use borrow.Author.Rules.{rules}
-use Rattle.translator.proofs.ByteLaws.{held_sound, further_end, held_ready, further_line}
+use Rattle.translator.proofs.ByteLaws.{further_line}
 use Rattle.translator.proofs.intake.take_line.Goals as goal
 
 pub returns-clause-rest : goal.returns-clause-rest
