@@ -24,6 +24,7 @@ use Rattle.bodies.specs.declared.Kept.{Kept}
 use Rattle.bodies.specs.declared.Excess.{Excess}
 use Rattle.bodies.specs.declared.Excess.TheVariants.{Within, Lengths, Actions}
 use Rattle.translator.specs.Position.{first_position, line_due, moved_on}
+use Rattle.translator.specs.declared.parts.Bodies.{Bodies}
 use Rattle.translator.specs.declared.position.Position.{Position}
 use Rattle.translator.specs.declared.intake.Intake.{Intake}
 use Rattle.translator.specs.declared.intake.Translation.{Translation}
@@ -38,6 +39,10 @@ pub record Memory : Type 0 where
 
 abbrev pub memory : (sizes start goal actions : List ℕ) → Memory
 memory sizes start goal actions = record { sizes = sizes; start = start; goal = goal; actions = actions }
+
+-- what the parts that are lent to be read have
+abbrev pub read_from : Bodies → Memory
+read_from b = memory b.sizes.now b.start.now b.goal.now b.actions.now
 
 -- room for each body at its limit
 pub record Lent (m : Memory) : Type 0 where

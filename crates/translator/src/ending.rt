@@ -8,10 +8,11 @@ ghost use Rattle.rules.specs.Translation.{is_end};
 ghost use Rattle.rules.specs.declared.Verdict.TheVariants.{Accepted};
 ghost use Rattle.writer.specs.Laid.{file_length};
 ghost use Rattle.bodies.specs.Keeping.{Sound};
-ghost use Rattle.translator.specs.Intake.{memory, Lent, taken, Ready, last_line, rules_kept, file_kept, verdict_kept, stops_early, verdict_at_end, EndsWith, ended, end_with, has_room, finish_call};
+ghost use Rattle.translator.specs.Intake.{memory, read_from, Lent, taken, Ready, last_line, rules_kept, file_kept, verdict_kept, stops_early, verdict_at_end, EndsWith, ended, end_with, has_room, finish_call};
 
 use crate::intake::{Intake, Translation};
 use crate::lines::{last_line, one_more};
+use crate::parts::Bodies;
 use crate::position::Position;
 use crate::room::has_room;
 use bodies::{Excess, Kept};
@@ -47,15 +48,15 @@ fn stops_early(position: Position, lines: usize) -> Verdict
 
 // Refusals 3 to 7 on what is kept.
 #[tactic(auto, unfolding(crate::specs::Intake::rules_kept))]
-fn rules_kept(kept: Kept, sizes: &[u8], start: &[u8], goal: &[u8], actions: &[u8]) -> Verdict
-    requires { Sound kept × Lent (memory sizes.now start.now goal.now actions.now) }
-    ensures { result ≡ rules_kept kept (memory sizes.now start.now goal.now actions.now) }
+fn rules_kept(kept: Kept, bodies: Bodies<'_>) -> Verdict
+    requires { Sound kept × Lent (read_from bodies) }
+    ensures { result ≡ rules_kept kept (read_from bodies.entry) }
 {
     reader::file::bodies_verdict(
-        &sizes[..kept.sizes],
-        &start[..kept.starts],
-        &goal[..PAIR_BYTES * kept.goals],
-        &actions[..kept.bytes],
+        &bodies.sizes[..kept.sizes],
+        &bodies.start[..kept.starts],
+        &bodies.goal[..PAIR_BYTES * kept.goals],
+        &bodies.actions[..kept.bytes],
     )
 }
 
@@ -79,26 +80,19 @@ fn length_kept(kept: Kept) -> usize
 }
 
 // Refusals 3 to 7, then 10.
-fn verdict_kept(
-    kept: Kept,
-    sizes: &[u8],
-    start: &[u8],
-    goal: &[u8],
-    actions: &[u8],
-    room: usize,
-) -> Verdict
-    requires { Sound kept × Lent (memory sizes.now start.now goal.now actions.now) }
-    ensures { result ≡ verdict_kept kept.excess kept (memory sizes.now start.now goal.now actions.now) room }
+fn verdict_kept(kept: Kept, bodies: Bodies<'_>, room: usize) -> Verdict
+    requires { Sound kept × Lent (read_from bodies) }
+    ensures { result ≡ verdict_kept kept.excess kept (read_from bodies.entry) room }
 {
     let excess = kept.excess;
     match excess {
         Excess::Within => in_turn(
-            rules_kept(kept, sizes, start, goal, actions),
+            rules_kept(kept, bodies),
             room_verdict(length_kept(kept), room),
         ),
         Excess::Lengths => Verdict::Refused(Refusal::BodyLength),
         Excess::Actions => in_turn(
-            rules_kept(kept, sizes, start, goal, actions),
+            rules_kept(kept, bodies),
             Verdict::Refused(Refusal::ActionAtFault(kept.actions)),
         ),
     }
@@ -106,104 +100,66 @@ fn verdict_kept(
 
 // Refusals 30 to 32, then those.
 #[tactic(auto, unfolding(crate::specs::Intake::verdict_at_end))]
-fn end_verdict(
-    state: Intake,
-    sizes: &[u8],
-    start: &[u8],
-    goal: &[u8],
-    actions: &[u8],
-    room: usize,
-) -> Verdict
-    requires { Sound state.kept × Lent (memory sizes.now start.now goal.now actions.now) }
-    ensures { result ≡ verdict_at_end state (memory sizes.now start.now goal.now actions.now) room }
+fn end_verdict(state: Intake, bodies: Bodies<'_>, room: usize) -> Verdict
+    requires { Sound state.kept × Lent (read_from bodies) }
+    ensures { result ≡ verdict_at_end state (read_from bodies.entry) room }
 {
     let early = stops_early(state.position, state.lines);
-    let kept = verdict_kept(state.kept, sizes, start, goal, actions, room);
+    let kept = verdict_kept(state.kept, bodies, room);
     let verdict = state.verdict;
     in_turn(verdict, in_turn(early, kept))
 }
 
 // Writes the file of what is kept, and answers its length.
 #[tactic(auto, unfolding(crate::specs::Intake::file_kept))]
-fn write_kept(
-    kept: Kept,
-    sizes: &[u8],
-    start: &[u8],
-    goal: &[u8],
-    actions: &[u8],
-    room: &mut [u8],
-) -> usize
-    requires { Sound kept × Lent (memory sizes.now start.now goal.now actions.now) × (length (file_kept kept (memory sizes.now start.now goal.now actions.now)) ≤ length room.old) }
-    ensures { (result ≡ length (file_kept kept (memory sizes.now start.now goal.now actions.now))) × (room.new ≡ lent_after Accepted (file_kept kept (memory sizes.now start.now goal.now actions.now)) room.old) }
+fn write_kept(kept: Kept, bodies: Bodies<'_>, room: &mut [u8]) -> usize
+    requires { Sound kept × Lent (read_from bodies) × (length (file_kept kept (read_from bodies)) ≤ length room.old) }
+    ensures { (result ≡ length (file_kept kept (read_from bodies.entry))) × (room.new ≡ lent_after Accepted (file_kept kept (read_from bodies.entry)) room.old) }
 {
     writer::write_file(
         room,
-        &sizes[..kept.sizes],
-        &start[..kept.starts],
-        &goal[..PAIR_BYTES * kept.goals],
-        &actions[..kept.bytes],
+        &bodies.sizes[..kept.sizes],
+        &bodies.start[..kept.starts],
+        &bodies.goal[..PAIR_BYTES * kept.goals],
+        &bodies.actions[..kept.bytes],
     )
 }
 
 // The answer at the end of a reading, and the file where it is accepted.
-fn end_with(
-    state: Intake,
-    sizes: &[u8],
-    start: &[u8],
-    goal: &[u8],
-    actions: &[u8],
-    room: &mut [u8],
-) -> Translation
-    requires { Sound state.kept × Lent (memory sizes.now start.now goal.now actions.now) }
-    ensures { EndsWith state (memory sizes.now start.now goal.now actions.now) room.old result room.new }
+fn end_with(state: Intake, bodies: Bodies<'_>, room: &mut [u8]) -> Translation
+    requires { Sound state.kept × Lent (read_from bodies) }
+    ensures { EndsWith state (read_from bodies.entry) room.old result room.new }
 {
     let kept = state.kept;
-    let verdict = end_verdict(state, sizes, start, goal, actions, room.len());
+    let verdict = end_verdict(state, bodies, room.len());
     match verdict {
         Verdict::Refused(why) => Translation::Refused(why),
-        Verdict::Accepted => Translation::Written(write_kept(
-            kept, sizes, start, goal, actions, room,
-        )),
+        Verdict::Accepted => Translation::Written(write_kept(kept, bodies, room)),
     }
 }
 
 // The end of a reading that has room: its last line, then the answer.
 #[tactic(auto, unfolding(crate::specs::Intake::end_with, crate::specs::Intake::end_verdict))]
-fn end_reading(
-    state: Intake,
-    sizes: &[u8],
-    start: &[u8],
-    goal: &[u8],
-    actions: &[u8],
-    line: &[u8],
-    room: &mut [u8],
-) -> Translation
-    requires { Ready (taken state (memory sizes.now start.now goal.now actions.now) line.now) }
-    ensures { ended result room.new ≡ end_with (last_line (taken state (memory sizes.now start.now goal.now actions.now) line.now)) room.old }
+fn end_reading(state: Intake, bodies: Bodies<'_>, line: &[u8], room: &mut [u8]) -> Translation
+    requires { Ready (taken state (read_from bodies) line.now) }
+    ensures { ended result room.new ≡ end_with (last_line (taken state (read_from bodies.entry) line.now)) room.old }
 {
     let last = last_line(state, line);
-    end_with(last, sizes, start, goal, actions, room)
+    end_with(last, bodies, room)
 }
 
 // Whether what is lent is room for a reading.
 #[tactic(auto, unfolding(crate::specs::Intake::has_room))]
-fn has_room_for(
-    state: Intake,
-    sizes: &[u8],
-    start: &[u8],
-    goal: &[u8],
-    actions: &[u8],
-    line: &[u8],
-) -> bool
-    ensures { result ≡ has_room (taken state (memory sizes.now start.now goal.now actions.now) line.now) }
+fn has_room_for(state: Intake, bodies: Bodies<'_>, line: &[u8]) -> bool
+    ensures { result ≡ has_room (taken state (read_from bodies.entry) line.now) }
 {
     has_room(
         state.kept,
         state.held,
-        sizes.len(),
-        start.len(),
-        goal.len(),
-        actions.len(),
+        bodies.sizes.len(),
+        bodies.start.len(),
+        bodies.goal.len(),
+        bodies.actions.len(),
         line.len(),
     )
 }
@@ -221,8 +177,14 @@ pub fn finish(
 ) -> Translation
     ensures { ended result room.new ≡ finish_call (taken state (memory sizes.now start.now goal.now actions.now) line.now) room.old }
 {
-    if !has_room_for(state, sizes, start, goal, actions, line) {
+    let bodies = Bodies {
+        sizes,
+        start,
+        goal,
+        actions,
+    };
+    if !has_room_for(state, bodies, line) {
         return Translation::Refused(Refusal::Room);
     }
-    end_reading(state, sizes, start, goal, actions, line, room)
+    end_reading(state, bodies, line, room)
 }

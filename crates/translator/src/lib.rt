@@ -7,6 +7,7 @@ mod holding;
 pub mod intake;
 mod keeping;
 mod lines;
+mod parts;
 pub mod position;
 pub mod room;
 
