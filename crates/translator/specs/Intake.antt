@@ -25,6 +25,7 @@ use Rattle.bodies.specs.declared.Excess.{Excess}
 use Rattle.bodies.specs.declared.Excess.TheVariants.{Within, Lengths, Actions}
 use Rattle.translator.specs.Position.{first_position, line_due, moved_on}
 use Rattle.translator.specs.declared.parts.Bodies.{Bodies}
+use Rattle.translator.specs.declared.parts.Parts.{Parts}
 use Rattle.translator.specs.declared.position.Position.{Position}
 use Rattle.translator.specs.declared.intake.Intake.{Intake}
 use Rattle.translator.specs.declared.intake.Translation.{Translation}
@@ -43,6 +44,21 @@ memory sizes start goal actions = record { sizes = sizes; start = start; goal = 
 -- what the parts that are lent to be read have
 abbrev pub read_from : Bodies → Memory
 read_from b = memory b.sizes.now b.start.now b.goal.now b.actions.now
+
+-- what the parts that are lent to be written have
+abbrev pub lent_in : Parts → Memory
+lent_in p = memory p.sizes.now p.start.now p.goal.now p.actions.now
+
+-- the same parts of memory still, each as long as it was
+pub record SameParts (before after : Parts) : Type 0 where
+  pub sizes : after.sizes.ghost_name ≡ before.sizes.ghost_name
+  pub start : after.start.ghost_name ≡ before.start.ghost_name
+  pub goal : after.goal.ghost_name ≡ before.goal.ghost_name
+  pub actions : after.actions.ghost_name ≡ before.actions.ghost_name
+  pub sizes_long : length after.sizes.now ≡ length before.sizes.now
+  pub start_long : length after.start.now ≡ length before.start.now
+  pub goal_long : length after.goal.now ≡ length before.goal.now
+  pub actions_long : length after.actions.now ≡ length before.actions.now
 
 -- room for each body at its limit
 pub record Lent (m : Memory) : Type 0 where

@@ -3,11 +3,12 @@ ghost use Rattle.std.specs.Prelude.{◌≡◌, ◌≤◌, ◌<◌, length, drop}
 ghost use Rattle.rules.specs.declared.Refusal.TheVariants.{Room};
 ghost use Rattle.rules.specs.declared.Verdict.TheVariants.{Refused};
 ghost use Rattle.bodies.specs.Keeping.{Sound};
-ghost use Rattle.translator.specs.Intake.{memory, head_room, taken, Ready, with_held, take_all, HeldLine, refused_for, take_call, begun};
+ghost use Rattle.translator.specs.Intake.{memory, lent_in, SameParts, head_room, taken, Ready, with_held, take_all, HeldLine, refused_for, take_call, begun};
 
 use crate::facts::group_facts;
 use crate::holding::hold;
 use crate::lines::end_line;
+use crate::parts::Parts;
 use crate::position::Position;
 use crate::room::has_room;
 use bodies::Kept;
@@ -99,15 +100,13 @@ fn take_line(
     bytes: &[u8],
     at: usize,
     state: Intake,
-    sizes: &mut [u8],
-    start: &mut [u8],
-    goal: &mut [u8],
-    actions: &mut [u8],
+    parts: &mut Parts<'_>,
     line: &mut [u8],
 ) -> Further
-    requires { Ready (taken state (memory sizes.old start.old goal.old actions.old) line.old) × (at < length bytes.now) }
-    ensures rest { take_all (taken result.reading (memory sizes.new start.new goal.new actions.new) line.new) (drop result.at bytes.now) ≡ take_all (taken state (memory sizes.old start.old goal.old actions.old) line.old) (drop at bytes.now) }
+    requires { Ready (taken state (lent_in parts.old) line.old) × (at < length bytes.now) }
+    ensures rest { take_all (taken result.reading (lent_in parts.new) line.new) (drop result.at bytes.now) ≡ take_all (taken state (lent_in parts.old) line.old) (drop at bytes.now) }
     ensures fits { Sound result.reading.kept × (result.reading.held ≤ head_room) }
+    ensures same { SameParts parts.old parts.new }
     ensures further { (at < result.at) × (result.at ≤ length bytes.now) }
 {
     let whole = reach_line(state, line, bytes, at);
@@ -117,7 +116,7 @@ fn take_line(
     }
     let next = end + 1;
     Further {
-        reading: end_line(whole.reading, sizes, start, goal, actions, line),
+        reading: end_line(whole.reading, parts, line),
         at: next,
     }
 }
@@ -154,11 +153,17 @@ pub fn take_bytes(
     ) {
         return refused_for_room(state);
     }
+    let mut parts = Parts {
+        sizes,
+        start,
+        goal,
+        actions,
+    };
     let mut reading = state;
     let mut at = 0;
     // The position jumps by as many bytes as were taken.
     while at < bytes.len() {
-        let further = take_line(bytes, at, reading, sizes, start, goal, actions, line);
+        let further = take_line(bytes, at, reading, &mut parts, line);
         reading = further.reading;
         at = further.at;
     }

@@ -1,10 +1,11 @@
 // A line that has ended: judged as the line that is due, and what it adds kept.
 ghost use Rattle.std.specs.Prelude.{◌≡◌, List, ℕ, ◌≤◌, length};
 ghost use Rattle.bodies.specs.Keeping.{Sound};
-ghost use Rattle.translator.specs.Intake.{Memory, memory, Lent, kept_in, keep_line, one_more, head_room, taken, Ready, read_on, stopped_for, after_line, end_line, last_said, last_line};
+ghost use Rattle.translator.specs.Intake.{Memory, lent_in, SameParts, Lent, kept_in, keep_line, one_more, head_room, taken, Ready, read_on, stopped_for, after_line, end_line, last_said, last_line};
 
 use crate::intake::Intake;
 use crate::keeping::keep_line;
+use crate::parts::Parts;
 use bodies::Kept;
 use rules::{FormatLine, Refusal, Verdict};
 use textlines::Numbers;
@@ -30,21 +31,14 @@ fn read(state: Intake, due: FormatLine, said: Numbers, kept: Kept) -> Intake
 }
 
 // A line that was in order is read, and what it adds is kept.
-fn read_on(
-    state: Intake,
-    due: FormatLine,
-    said: Numbers,
-    sizes: &mut [u8],
-    start: &mut [u8],
-    goal: &mut [u8],
-    actions: &mut [u8],
-) -> Intake
-    requires { Sound state.kept × Lent (memory sizes.old start.old goal.old actions.old) }
+fn read_on(state: Intake, due: FormatLine, said: Numbers, parts: &mut Parts<'_>) -> Intake
+    requires { Sound state.kept × Lent (lent_in parts.old) }
     ensures stands { result ≡ read_on due said state result.kept }
-    ensures kept { kept_in result.kept (memory sizes.new start.new goal.new actions.new) ≡ keep_line due said (kept_in state.kept (memory sizes.old start.old goal.old actions.old)) }
+    ensures kept { kept_in result.kept (lent_in parts.new) ≡ keep_line due said (kept_in state.kept (lent_in parts.old)) }
     ensures sound { Sound result.kept }
+    ensures same { SameParts parts.old parts.new }
 {
-    let kept = keep_line(due, said, state.kept, sizes, start, goal, actions);
+    let kept = keep_line(due, said, state.kept, parts);
     read(state, due, said, kept)
 }
 
@@ -64,34 +58,26 @@ fn after_line(
     state: Intake,
     due: FormatLine,
     said: Result<Numbers, Refusal>,
-    sizes: &mut [u8],
-    start: &mut [u8],
-    goal: &mut [u8],
-    actions: &mut [u8],
+    parts: &mut Parts<'_>,
 ) -> Intake
-    requires { Sound state.kept × Lent (memory sizes.old start.old goal.old actions.old) }
-    ensures after { (line : List ℕ) → taken result (memory sizes.new start.new goal.new actions.new) line ≡ after_line said due state (memory sizes.old start.old goal.old actions.old) line }
+    requires { Sound state.kept × Lent (lent_in parts.old) }
+    ensures after { (line : List ℕ) → taken result (lent_in parts.new) line ≡ after_line said due state (lent_in parts.old) line }
     ensures fits { Sound result.kept × (result.held ≤ head_room) }
+    ensures same { SameParts parts.old parts.new }
 {
     match said {
         Err(why) => stopped(state, why),
-        Ok(numbers) => read_on(state, due, numbers, sizes, start, goal, actions),
+        Ok(numbers) => read_on(state, due, numbers, parts),
     }
 }
 
 // The line that is held ends: it is judged as the line that is due.
 #[tactic(auto, unfolding(crate::specs::Intake::end_line))]
-pub(crate) fn end_line(
-    state: Intake,
-    sizes: &mut [u8],
-    start: &mut [u8],
-    goal: &mut [u8],
-    actions: &mut [u8],
-    line: &[u8],
-) -> Intake
-    requires { Ready (taken state (memory sizes.old start.old goal.old actions.old) line.now) }
-    ensures ended { taken result (memory sizes.new start.new goal.new actions.new) line.now ≡ end_line (taken state (memory sizes.old start.old goal.old actions.old) line.now) }
+pub(crate) fn end_line(state: Intake, parts: &mut Parts<'_>, line: &[u8]) -> Intake
+    requires { Ready (taken state (lent_in parts.old) line.now) }
+    ensures ended { taken result (lent_in parts.new) line.now ≡ end_line (taken state (lent_in parts.old) line.now) }
     ensures fits { Sound result.kept × (result.held ≤ head_room) }
+    ensures same { SameParts parts.old parts.new }
 {
     let verdict = state.verdict;
     let Verdict::Accepted = verdict else {
@@ -100,7 +86,7 @@ pub(crate) fn end_line(
     let held = state.held;
     let due = state.position.line_due();
     let said = textlines::says(due, one_more(state.lines), &line[..held]);
-    after_line(state, due, said, sizes, start, goal, actions)
+    after_line(state, due, said, parts)
 }
 
 // What a last line said decides. One that was in order ends the text, or the text stops early, and what it adds matters to neither.

@@ -8,3 +8,12 @@ pub(crate) struct Bodies<'a> {
     pub goal: &'a [u8],
     pub actions: &'a [u8],
 }
+
+// Room for each body, to be written.
+#[derive(Drop)]
+pub(crate) struct Parts<'a> {
+    pub sizes: &'a mut [u8],
+    pub start: &'a mut [u8],
+    pub goal: &'a mut [u8],
+    pub actions: &'a mut [u8],
+}

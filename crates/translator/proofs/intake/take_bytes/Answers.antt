@@ -8,10 +8,10 @@ pub returns-then-not-has_room : goal.returns-then-not-has_room
 returns-then-not-has_room c = search (rules, call_short)
 
 pub loop-at-init : goal.loop-at-init
-loop-at-init c = (search rules, search rules, search rules, search rules, search rules, search (rules, room_ready), search rules, search rules)
+loop-at-init c = (search rules, search (rules, room_ready), search rules, search rules)
 
 pub loop-at-preserved : goal.loop-at-preserved
-loop-at-preserved c = (search rules, search rules, search rules, search rules, search rules, search rules, search rules, search (rules, further_on))
+loop-at-preserved c = (search rules, search rules, search rules, search (rules, further_on))
 
 pub returns : goal.returns
 returns c = search (rules, call_done)
