@@ -20,7 +20,7 @@ use Rattle.rules.specs.declared.Refusal.{Refusal}
 use Rattle.rules.specs.declared.Refusal.TheVariants.{Room}
 use Rattle.rules.specs.declared.Verdict.TheVariants.{Accepted, Refused}
 use Rattle.rules.proofs.Bools.{clash, and_left, and_right, not_true, not_false}
-use Rattle.translator.specs.Intake.{Memory, head_room, Taken, taken, end_line, with_held, take_byte, take_all, SameRest, HeldUpTo, Passed, no_lf, block, half_block, quarter_block, block_passes, PassedUpTo, HeldLine, room_for, has_room, refused_for, take_call}
+use Rattle.translator.specs.Intake.{Memory, head_room, Taken, taken, end_line, with_held, take_byte, take_all, SameRest, HeldUpTo, Passed, no_lf, block, half_block, quarter_block, block_passes, PassedUpTo, HeldLine, has_room, refused_for, take_call}
 use Rattle.translator.specs.declared.intake.Intake.{Intake}
 use Rattle.translator.proofs.InPieces.{bytes_stay, byte_ends, byte_held, byte_passed}
 
@@ -214,12 +214,12 @@ further_on t u whole bytes n k e f = e ∙ f
 
 -- ---- the call
 
-module _ (i : Intake) (m : Memory) (line bytes : List ℕ) (r : Bool) (room : r ≡ room_for i.kept i.held (length m.sizes) (length m.start) (length m.goal) (length m.actions) (length line)) where
+module _ (i : Intake) (m : Memory) (line bytes : List ℕ) (r : Bool) (room : r ≡ has_room (taken i m line)) where
   pub call_short : (s : Intake) → not r ≡ true → s ≡ refused_for (Refused Room) i → taken s m line ≡ take_call (taken i m line) bytes
-  unfolding take_call has_room
+  unfolding take_call
   call_short s h e = rw (sym room ∙ not_true r h, e)
 
   pub call_done : (t : Taken) (n : ℕ) → not r ≡ false → length bytes ≤ n → take_all t (drop n bytes) ≡ take_all (taken i m line) bytes
       → t ≡ take_call (taken i m line) bytes
-  unfolding take_call take_all has_room
+  unfolding take_call take_all
   call_done t n h d k = rw (drop_of_length-le bytes d) at k ∙ rw (sym room ∙ not_false r h)

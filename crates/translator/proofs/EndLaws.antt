@@ -131,10 +131,3 @@ module _ (k : Kept) (sizes start goal actions : List ℕ) where
       → after ≡ lent_after Accepted (file_kept k (memory sizes start goal actions)) room
   unfolding file_kept
   file_left room after e = e ∙ written_front room _
-
--- ---- the call
-
-module _ (i : Intake) (m : Memory) (line : List ℕ) (b : Bool) (has : b ≡ has_room (taken i m line)) where
-  pub has_ready : not b ≡ false → Ready (taken i m line)
-  unfolding has_room
-  has_ready h = room_ready i m line b has h

@@ -11,7 +11,7 @@ use Rattle.rules.specs.Limits.{max_variables, max_goals, max_actions, max_pairs,
 use Rattle.rules.proofs.Bools.{and_left, and_right, not_false}
 use Rattle.bodies.specs.declared.Kept.{Kept}
 use Rattle.bodies.specs.Keeping.{Sound, goal_room, actions_room}
-use Rattle.translator.specs.Intake.{Memory, Lent, head_room, taken, Ready, actions_fit, counts_fit, lent_fits, room_for}
+use Rattle.translator.specs.Intake.{Memory, Lent, head_room, taken, Ready, actions_fit, counts_fit, lent_fits, has_room}
 use Rattle.translator.specs.declared.intake.Intake.{Intake}
 
 -- ---- what the tests say
@@ -41,7 +41,7 @@ counts_sound k h =
       effects = leb-true k.effects max_pairs (and_right (s && t && g && (a && b) && p) e h);
     }
 
-lent_enough : (m : Memory) (line : ℕ) → lent_fits (length m.sizes) (length m.start) (length m.goal) (length m.actions) line ≡ true
+lent_enough : (m : Memory) (line : ℕ) → lent_fits m line ≡ true
     → Lent m × (head_room ≤ line)
 unfolding lent_fits
 lent_enough m line h =
@@ -63,13 +63,13 @@ lent_enough m line h =
     )
 
 module _ (i : Intake) (m : Memory) (line : List ℕ) where
-  pub room_ready : (r : Bool) → r ≡ room_for i.kept i.held (length m.sizes) (length m.start) (length m.goal) (length m.actions) (length line)
+  pub room_ready : (r : Bool) → r ≡ has_room (taken i m line)
       → not r ≡ false → Ready (taken i m line)
-  unfolding room_for
+  unfolding has_room
   room_ready r e k =
       let c : Bool = counts_fit i.kept in
       let h : Bool = leb i.held head_room in
-      let l : Bool = lent_fits (length m.sizes) (length m.start) (length m.goal) (length m.actions) (length line) in
+      let l : Bool = lent_fits m (length line) in
       let all : (c && h && l) ≡ true = sym e ∙ not_false r k in
       let lent : Lent m × (head_room ≤ length line) = lent_enough m (length line) (and_right (c && h) l all) in
       record {

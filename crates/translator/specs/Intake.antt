@@ -281,17 +281,13 @@ counts_fit k =
     leb k.sizes max_variables && leb k.starts max_variables && leb k.goals max_goals && actions_fit k.actions k.bytes
     && leb k.preconditions max_pairs && leb k.effects max_pairs
 
-unfoldable pub lent_fits : (sizes start goal actions line : ℕ) → Bool
-lent_fits sizes start goal actions line =
-    leb max_variables sizes && leb max_variables start && leb goal_room goal && leb actions_room actions && leb head_room line
-
-unfoldable pub room_for : Kept → (held sizes start goal actions line : ℕ) → Bool
-room_for k held sizes start goal actions line = counts_fit k && leb held head_room && lent_fits sizes start goal actions line
+unfoldable pub lent_fits : Memory → (line : ℕ) → Bool
+lent_fits m line =
+    leb max_variables (length m.sizes) && leb max_variables (length m.start) && leb goal_room (length m.goal) && leb actions_room (length m.actions)
+    && leb head_room line
 
 unfoldable pub has_room : Taken → Bool
-has_room t =
-    room_for t.intake.kept t.intake.held (length t.memory.sizes) (length t.memory.start) (length t.memory.goal) (length t.memory.actions)
-    (length t.line)
+has_room t = counts_fit t.intake.kept && leb t.intake.held head_room && lent_fits t.memory (length t.line)
 
 abbrev pub refused_for : Verdict → Intake → Intake
 refused_for verdict i = record { position = i.position; lines = i.lines; verdict = verdict; kept = i.kept; held = i.held }

@@ -8,7 +8,7 @@ ghost use Rattle.rules.specs.Translation.{is_end};
 ghost use Rattle.rules.specs.declared.Verdict.TheVariants.{Accepted};
 ghost use Rattle.writer.specs.Laid.{file_length};
 ghost use Rattle.bodies.specs.Keeping.{Sound};
-ghost use Rattle.translator.specs.Intake.{memory, read_from, Lent, taken, Ready, last_line, rules_kept, file_kept, verdict_kept, stops_early, verdict_at_end, EndsWith, ended, end_with, has_room, finish_call};
+ghost use Rattle.translator.specs.Intake.{memory, read_from, Lent, taken, Ready, last_line, rules_kept, file_kept, verdict_kept, stops_early, verdict_at_end, EndsWith, ended, end_with, finish_call};
 
 use crate::intake::{Intake, Translation};
 use crate::lines::{last_line, one_more};
@@ -148,22 +148,6 @@ fn end_reading(state: Intake, bodies: Bodies<'_>, line: &[u8], room: &mut [u8]) 
     end_with(last, bodies, room)
 }
 
-// Whether what is lent is room for a reading.
-#[tactic(auto, unfolding(crate::specs::Intake::has_room))]
-fn has_room_for(state: Intake, bodies: Bodies<'_>, line: &[u8]) -> bool
-    ensures { result ≡ has_room (taken state (read_from bodies.entry) line.now) }
-{
-    has_room(
-        state.kept,
-        state.held,
-        bodies.sizes.len(),
-        bodies.start.len(),
-        bodies.goal.len(),
-        bodies.actions.len(),
-        line.len(),
-    )
-}
-
 // The end of a text: its task file in the room, or the refusal, which leaves the room as found.
 #[tactic(auto, unfolding(crate::specs::Intake::finish_call))]
 pub fn finish(
@@ -183,7 +167,7 @@ pub fn finish(
         goal,
         actions,
     };
-    if !has_room_for(state, bodies, line) {
+    if !has_room(state, bodies, line) {
         return Translation::Refused(Refusal::Room);
     }
     end_reading(state, bodies, line, room)

@@ -142,23 +142,15 @@ pub fn take_bytes(
 ) -> Intake
     ensures { taken result (memory sizes.new start.new goal.new actions.new) line.new ≡ take_call (taken state (memory sizes.old start.old goal.old actions.old) line.old) bytes.now }
 {
-    if !has_room(
-        state.kept,
-        state.held,
-        sizes.len(),
-        start.len(),
-        goal.len(),
-        actions.len(),
-        line.len(),
-    ) {
-        return refused_for_room(state);
-    }
     let mut parts = Parts {
         sizes,
         start,
         goal,
         actions,
     };
+    if !has_room(state, parts.read(), line) {
+        return refused_for_room(state);
+    }
     let mut reading = state;
     let mut at = 0;
     // The position jumps by as many bytes as were taken.

@@ -1,4 +1,6 @@
 // The parts of memory that are lent for the bodies of a task.
+ghost use Rattle.std.specs.Prelude.{◌≡◌};
+ghost use Rattle.translator.specs.Intake.{read_from, lent_in};
 
 // What is kept of each body, to be read.
 #[derive(Clone, Copy)]
@@ -16,4 +18,18 @@ pub(crate) struct Parts<'a> {
     pub start: &'a mut [u8],
     pub goal: &'a mut [u8],
     pub actions: &'a mut [u8],
+}
+
+impl Parts<'_> {
+    // The same parts, to be read.
+    pub(crate) fn read(&self) -> Bodies<'_>
+        ensures { read_from result ≡ lent_in self.now }
+    {
+        Bodies {
+            sizes: self.sizes,
+            start: self.start,
+            goal: self.goal,
+            actions: self.actions,
+        }
+    }
 }
