@@ -11,7 +11,7 @@ ghost use Rattle.bodies.specs.Keeping.{Sound};
 ghost use Rattle.translator.specs.Intake.{memory, read_from, Lent, taken, Ready, last_line, rules_kept, file_kept, verdict_kept, stops_early, verdict_at_end, EndsWith, ended, end_with, finish_call};
 
 use crate::intake::{Intake, Translation};
-use crate::lines::{last_line, one_more};
+use crate::lines::one_more;
 use crate::parts::Bodies;
 use crate::position::Position;
 use crate::room::has_room;
@@ -98,18 +98,6 @@ fn verdict_kept(kept: Kept, bodies: Bodies<'_>, room: usize) -> Verdict
     }
 }
 
-// Refusals 30 to 32, then those.
-#[tactic(auto, unfolding(crate::specs::Intake::verdict_at_end))]
-fn end_verdict(state: Intake, bodies: Bodies<'_>, room: usize) -> Verdict
-    requires { Sound state.kept × Lent (read_from bodies) }
-    ensures { result ≡ verdict_at_end state (read_from bodies.entry) room }
-{
-    let early = stops_early(state.position, state.lines);
-    let kept = verdict_kept(state.kept, bodies, room);
-    let verdict = state.verdict;
-    in_turn(verdict, in_turn(early, kept))
-}
-
 // Writes the file of what is kept, and answers its length.
 #[tactic(auto, unfolding(crate::specs::Intake::file_kept))]
 fn write_kept(kept: Kept, bodies: Bodies<'_>, room: &mut [u8]) -> usize
@@ -125,27 +113,40 @@ fn write_kept(kept: Kept, bodies: Bodies<'_>, room: &mut [u8]) -> usize
     )
 }
 
-// The answer at the end of a reading, and the file where it is accepted.
-fn end_with(state: Intake, bodies: Bodies<'_>, room: &mut [u8]) -> Translation
-    requires { Sound state.kept × Lent (read_from bodies) }
-    ensures { EndsWith state (read_from bodies.entry) room.old result room.new }
-{
-    let kept = state.kept;
-    let verdict = end_verdict(state, bodies, room.len());
-    match verdict {
-        Verdict::Refused(why) => Translation::Refused(why),
-        Verdict::Accepted => Translation::Written(write_kept(kept, bodies, room)),
+impl Intake {
+    // Refusals 30 to 32, then those.
+    #[tactic(auto, unfolding(crate::specs::Intake::verdict_at_end))]
+    fn end_verdict(self, bodies: Bodies<'_>, room: usize) -> Verdict
+        requires { Sound self.kept × Lent (read_from bodies) }
+        ensures { result ≡ verdict_at_end self (read_from bodies.entry) room }
+    {
+        let early = stops_early(self.position, self.lines);
+        let kept = verdict_kept(self.kept, bodies, room);
+        let verdict = self.verdict;
+        in_turn(verdict, in_turn(early, kept))
     }
-}
 
-// The end of a reading that has room: its last line, then the answer.
-#[tactic(auto, unfolding(crate::specs::Intake::end_with, crate::specs::Intake::end_verdict))]
-fn end_reading(state: Intake, bodies: Bodies<'_>, line: &[u8], room: &mut [u8]) -> Translation
-    requires { Ready (taken state (read_from bodies) line.now) }
-    ensures { ended result room.new ≡ end_with (last_line (taken state (read_from bodies.entry) line.now)) room.old }
-{
-    let last = last_line(state, line);
-    end_with(last, bodies, room)
+    // The answer at the end of a reading, and the file where it is accepted.
+    fn end_with(self, bodies: Bodies<'_>, room: &mut [u8]) -> Translation
+        requires { Sound self.kept × Lent (read_from bodies) }
+        ensures { EndsWith self (read_from bodies.entry) room.old result room.new }
+    {
+        let kept = self.kept;
+        let verdict = self.end_verdict(bodies, room.len());
+        match verdict {
+            Verdict::Refused(why) => Translation::Refused(why),
+            Verdict::Accepted => Translation::Written(write_kept(kept, bodies, room)),
+        }
+    }
+
+    // The end of a reading that has room: its last line, then the answer.
+    #[tactic(auto, unfolding(crate::specs::Intake::end_with, crate::specs::Intake::end_verdict))]
+    fn end_reading(self, bodies: Bodies<'_>, line: &[u8], room: &mut [u8]) -> Translation
+        requires { Ready (taken self (read_from bodies) line.now) }
+        ensures { ended result room.new ≡ end_with (last_line (taken self (read_from bodies.entry) line.now)) room.old }
+    {
+        self.last_line(line).end_with(bodies, room)
+    }
 }
 
 // The end of a text: its task file in the room, or the refusal, which leaves the room as found.
@@ -170,5 +171,5 @@ pub fn finish(
     if !has_room(state, bodies, line) {
         return Translation::Refused(Refusal::Room);
     }
-    end_reading(state, bodies, line, room)
+    state.end_reading(bodies, line, room)
 }

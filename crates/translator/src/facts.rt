@@ -32,17 +32,19 @@ fn fact_ends(line: &[u8], held: usize, bytes: &[u8], at: usize) -> bool
     textlines::is_fact(&line[..held])
 }
 
-// A fact has ended before a place.
-#[tactic(auto, unfolding(crate::specs::Facts::one_read))]
-fn one_read(facts: Facts, next: usize) -> Facts
-    requires { 0 < facts.left }
-    ensures { result ≡ one_read next facts }
-{
-    Facts {
-        at: next,
-        held: 0,
-        left: facts.left - 1,
-        lines: one_more(facts.lines),
+impl Facts {
+    // A fact has ended before a place.
+    #[tactic(auto, unfolding(crate::specs::Facts::one_read))]
+    fn one_read(self, next: usize) -> Facts
+        requires { 0 < self.left }
+        ensures { result ≡ one_read next self }
+    {
+        Facts {
+            at: next,
+            held: 0,
+            left: self.left - 1,
+            lines: one_more(self.lines),
+        }
     }
 }
 
@@ -59,38 +61,41 @@ fn read_facts(line: &mut [u8], bytes: &[u8], first: Facts) -> Facts
         if !fact_ends(line, facts.held, bytes, facts.at) {
             return facts;
         }
-        facts = one_read(facts, facts.at + 1);
+        facts = facts.one_read(facts.at + 1);
     }
     facts
 }
 
-fn among_facts(state: Intake, facts: Facts) -> Intake
-    ensures { result ≡ among_facts facts state }
-{
-    Intake {
-        position: state.position.repeated(FormatLine::MutexFact, facts.left),
-        lines: facts.lines,
-        verdict: Verdict::Accepted,
-        held: facts.held,
-        ..state
+impl Intake {
+    // The reading is so far among the facts.
+    fn among_facts(self, facts: Facts) -> Intake
+        ensures { result ≡ among_facts facts self }
+    {
+        Intake {
+            position: self.position.repeated(FormatLine::MutexFact, facts.left),
+            lines: facts.lines,
+            verdict: Verdict::Accepted,
+            held: facts.held,
+            ..self
+        }
     }
-}
 
-// The facts of a mutex group that come next are read.
-pub(crate) fn group_facts(state: Intake, line: &mut [u8], bytes: &[u8], at: usize) -> Further
-    requires in_facts { (state.verdict ≡ Accepted) × (state.position.line ≡ MutexFact) }
-    requires rooms { (state.held ≤ head_room) × (head_room ≤ length line.old) × (at ≤ length bytes.now) }
-    ensures { FactsTaken state line.old bytes.now at result.reading result.at line.new }
-{
-    let first = Facts {
-        at,
-        held: state.held,
-        left: state.position.inner,
-        lines: state.lines,
-    };
-    let facts = read_facts(line, bytes, first);
-    Further {
-        reading: among_facts(state, facts),
-        at: facts.at,
+    // The facts of a mutex group that come next are read.
+    pub(crate) fn group_facts(self, line: &mut [u8], bytes: &[u8], at: usize) -> Further
+        requires in_facts { (self.verdict ≡ Accepted) × (self.position.line ≡ MutexFact) }
+        requires rooms { (self.held ≤ head_room) × (head_room ≤ length line.old) × (at ≤ length bytes.now) }
+        ensures { FactsTaken self line.old bytes.now at result.reading result.at line.new }
+    {
+        let first = Facts {
+            at,
+            held: self.held,
+            left: self.position.inner,
+            lines: self.lines,
+        };
+        let facts = read_facts(line, bytes, first);
+        Further {
+            reading: self.among_facts(facts),
+            at: facts.at,
+        }
     }
 }

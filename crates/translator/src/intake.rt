@@ -5,9 +5,7 @@ ghost use Rattle.rules.specs.declared.Verdict.TheVariants.{Refused};
 ghost use Rattle.bodies.specs.Keeping.{Sound};
 ghost use Rattle.translator.specs.Intake.{memory, lent_in, SameParts, head_room, taken, Ready, with_held, take_all, HeldLine, refused_for, take_call, begun};
 
-use crate::facts::group_facts;
 use crate::holding::hold;
-use crate::lines::end_line;
 use crate::parts::Parts;
 use crate::position::Position;
 use crate::room::has_room;
@@ -60,73 +58,70 @@ fn with_held(state: Intake, held: usize) -> Intake
     next
 }
 
-// The line that has begun goes on, up to an LF or the end of the bytes; behind a fault they are passed over.
-fn hold_line(state: Intake, line: &mut [u8], bytes: &[u8], at: usize) -> Further
-    requires { (state.held ≤ head_room) × (head_room ≤ length line.old) × (at ≤ length bytes.now) }
-    ensures { HeldLine state line.old bytes.now at result.reading result.at line.new }
-{
-    let verdict = state.verdict;
-    let Verdict::Accepted = verdict else {
-        return Further {
-            reading: state,
-            at: bytes.len(),
+impl Intake {
+    // The line that has begun goes on, up to an LF or the end of the bytes; behind a fault they are passed over.
+    fn hold_line(self, line: &mut [u8], bytes: &[u8], at: usize) -> Further
+        requires { (self.held ≤ head_room) × (head_room ≤ length line.old) × (at ≤ length bytes.now) }
+        ensures { HeldLine self line.old bytes.now at result.reading result.at line.new }
+    {
+        let verdict = self.verdict;
+        let Verdict::Accepted = verdict else {
+            return Further {
+                reading: self,
+                at: bytes.len(),
+            };
         };
-    };
-    let stop = hold(line, state.held, bytes, at);
-    Further {
-        reading: with_held(state, stop.held),
-        at: stop.at,
+        let stop = hold(line, self.held, bytes, at);
+        Further {
+            reading: with_held(self, stop.held),
+            at: stop.at,
+        }
     }
-}
 
-// Where the facts of a mutex group are due, those that come next are read; the line behind them goes on.
-fn reach_line(state: Intake, line: &mut [u8], bytes: &[u8], at: usize) -> Further
-    requires { (state.held ≤ head_room) × (head_room ≤ length line.old) × (at ≤ length bytes.now) }
-    ensures { HeldLine state line.old bytes.now at result.reading result.at line.new }
-{
-    let verdict = state.verdict;
-    let Verdict::Accepted = verdict else {
-        return hold_line(state, line, bytes, at);
-    };
-    if !matches!(state.position.line, FormatLine::MutexFact) {
-        return hold_line(state, line, bytes, at);
+    // Where the facts of a mutex group are due, those that come next are read; the line behind them goes on.
+    fn reach_line(self, line: &mut [u8], bytes: &[u8], at: usize) -> Further
+        requires { (self.held ≤ head_room) × (head_room ≤ length line.old) × (at ≤ length bytes.now) }
+        ensures { HeldLine self line.old bytes.now at result.reading result.at line.new }
+    {
+        let verdict = self.verdict;
+        let Verdict::Accepted = verdict else {
+            return self.hold_line(line, bytes, at);
+        };
+        if !matches!(self.position.line, FormatLine::MutexFact) {
+            return self.hold_line(line, bytes, at);
+        }
+        let behind = self.group_facts(line, bytes, at);
+        behind.reading.hold_line(line, bytes, behind.at)
     }
-    let behind = group_facts(state, line, bytes, at);
-    hold_line(behind.reading, line, bytes, behind.at)
-}
 
-// The bytes from a place on, up to the end of a line and with its LF.
-fn take_line(
-    bytes: &[u8],
-    at: usize,
-    state: Intake,
-    parts: &mut Parts<'_>,
-    line: &mut [u8],
-) -> Further
-    requires { Ready (taken state (lent_in parts.old) line.old) × (at < length bytes.now) }
-    ensures rest { take_all (taken result.reading (lent_in parts.new) line.new) (drop result.at bytes.now) ≡ take_all (taken state (lent_in parts.old) line.old) (drop at bytes.now) }
-    ensures fits { Sound result.reading.kept × (result.reading.held ≤ head_room) }
-    ensures same { SameParts parts.old parts.new }
-    ensures further { (at < result.at) × (result.at ≤ length bytes.now) }
-{
-    let whole = reach_line(state, line, bytes, at);
-    let end = whole.at;
-    if bytes.len() <= end {
-        return whole;
+    // The bytes from a place on, up to the end of a line and with its LF.
+    fn take_line(self, parts: &mut Parts<'_>, line: &mut [u8], bytes: &[u8], at: usize) -> Further
+        requires { Ready (taken self (lent_in parts.old) line.old) × (at < length bytes.now) }
+        ensures rest { take_all (taken result.reading (lent_in parts.new) line.new) (drop result.at bytes.now) ≡ take_all (taken self (lent_in parts.old) line.old) (drop at bytes.now) }
+        ensures fits { Sound result.reading.kept × (result.reading.held ≤ head_room) }
+        ensures same { SameParts parts.old parts.new }
+        ensures further { (at < result.at) × (result.at ≤ length bytes.now) }
+    {
+        let whole = self.reach_line(line, bytes, at);
+        let end = whole.at;
+        if bytes.len() <= end {
+            return whole;
+        }
+        let next = end + 1;
+        Further {
+            reading: whole.reading.end_line(parts, line),
+            at: next,
+        }
     }
-    let next = end + 1;
-    Further {
-        reading: end_line(whole.reading, parts, line),
-        at: next,
-    }
-}
 
-fn refused_for_room(state: Intake) -> Intake
-    ensures { result ≡ refused_for (Refused Room) state }
-{
-    Intake {
-        verdict: Verdict::Refused(Refusal::Room),
-        ..state
+    // What is lent is no room for the reading.
+    fn refused_for_room(self) -> Intake
+        ensures { result ≡ refused_for (Refused Room) self }
+    {
+        Intake {
+            verdict: Verdict::Refused(Refusal::Room),
+            ..self
+        }
     }
 }
 
@@ -149,13 +144,13 @@ pub fn take_bytes(
         actions,
     };
     if !has_room(state, parts.read(), line) {
-        return refused_for_room(state);
+        return state.refused_for_room();
     }
     let mut reading = state;
     let mut at = 0;
     // The position jumps by as many bytes as were taken.
     while at < bytes.len() {
-        let further = take_line(bytes, at, reading, &mut parts, line);
+        let further = reading.take_line(&mut parts, line, bytes, at);
         reading = further.reading;
         at = further.at;
     }
