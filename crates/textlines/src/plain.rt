@@ -16,6 +16,7 @@ fn all_digits(word: &[u8]) -> bool
 }
 
 // Whether a word is a number.
+#[tactic(auto, unfolding(rules::specs::Format::is_plain))]
 pub fn is_plain(word: &[u8]) -> bool
     ensures { result ≡ is_plain word.now }
 {
@@ -43,6 +44,7 @@ pub fn is_minus_one(word: &[u8]) -> bool
 }
 
 // Whether a word is a number or -1.
+#[tactic(auto, unfolding(crate::specs::Says::is_signed))]
 pub fn is_signed(word: &[u8]) -> bool
     ensures { result ≡ is_signed word.now }
 {
@@ -68,6 +70,7 @@ pub fn is_plain_at(line: &[u8], i: usize) -> bool
 }
 
 // The number that word i of a line is.
+#[tactic(auto, unfolding(rules::specs::Format::number_at))]
 pub fn number_at(line: &[u8], i: usize) -> usize
     requires { is_plain (word_at line.now i) ≡ true }
     ensures { result ≡ number_at line.now i }

@@ -1,4 +1,6 @@
 // A line of each shape: the rules of its shape in their order, then the numbers that it says.
+#![tactic(auto, unfolding(crate::specs::Says::shape_says, crate::specs::Says::numbers_in, crate::specs::Says::is_fact, crate::specs::Says::is_signed, crate::specs::Says::is_effect, rules::specs::Format::line_rules, rules::specs::Format::line_number, rules::specs::Format::number_at, rules::specs::Answers::judge))]
+
 ghost use Rattle.std.specs.Prelude.{true, ◌≡◌};
 ghost use Rattle.rules.specs.Format.{keyword, version, metric, layer, effect, axiom_count, word_at};
 ghost use Rattle.textlines.specs.Says.{says_nothing, against_format, old_in, shape_says, a_number, a_fact, is_signed, is_effect};
