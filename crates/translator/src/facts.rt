@@ -26,10 +26,7 @@ fn fact_ends(line: &[u8], held: usize, bytes: &[u8], at: usize) -> bool
     requires { (held ≤ head_room) × (head_room ≤ length line.now) }
     ensures { result ≡ fact_ends bytes.now at held line.now }
 {
-    if bytes.len() <= at {
-        return false;
-    }
-    textlines::is_fact(&line[..held])
+    at < bytes.len() && textlines::is_fact(&line[..held])
 }
 
 impl Facts {

@@ -55,10 +55,7 @@ fn block_passes(bytes: &[u8], at: usize) -> bool
     requires { at ≤ length bytes.now }
     ensures { result ≡ block_passes bytes.now at }
 {
-    if bytes.len() - at < BLOCK {
-        return false;
-    }
-    no_lf_in_block(bytes, at)
+    BLOCK <= bytes.len() - at && no_lf_in_block(bytes, at)
 }
 
 // Where the line that goes on at a place ends, byte by byte.
@@ -76,7 +73,7 @@ fn line_end(bytes: &[u8], at: usize) -> usize
     ensures { PassedUpTo bytes.now at result }
 {
     let mut end = at;
-    // A whole block is passed at a time, and the bytes after the last are no whole one.
+    // A `while`, as the position jumps by a whole block; the bytes behind the last of them are looked at one by one.
     while block_passes(bytes, end) {
         end += BLOCK;
     }

@@ -23,10 +23,7 @@ pub const HEAD_ROOM: usize = 32;
 fn actions_fit(actions: usize, bytes: usize) -> bool
     ensures { result ≡ actions_fit actions bytes }
 {
-    if MAX_ACTIONS < actions {
-        return false;
-    }
-    bytes <= MAX_ACTION * actions
+    actions <= MAX_ACTIONS && bytes <= MAX_ACTION * actions
 }
 
 // No count is over its limit.
