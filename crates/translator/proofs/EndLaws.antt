@@ -27,7 +27,7 @@ use Rattle.bodies.specs.declared.Kept.{Kept}
 use Rattle.bodies.specs.declared.Excess.{Excess}
 use Rattle.bodies.specs.declared.Excess.TheVariants.{Within, Lengths, Actions}
 use Rattle.bodies.specs.Keeping.{Sound}
-use Rattle.translator.specs.Intake.{Memory, memory, Lent, taken, Ready, has_room, rules_kept, file_kept, verdict_kept, stops_early, verdict_at_end}
+use Rattle.translator.specs.Intake.{Memory, memory, kept_of, Lent, taken, Ready, has_room, rules_kept, file_kept, verdict_kept, stops_early, verdict_at_end}
 use Rattle.translator.specs.declared.intake.Intake.{Intake}
 use Rattle.translator.proofs.RoomLaws.{room_ready}
 
@@ -100,11 +100,11 @@ file_holds i m room v e a =
     kept_holds i.kept.excess i.kept m room
     (in_turn-right (stops_early i.position i.lines) _ (in_turn-right i.verdict _ (sym e ∙ a)))
 
-module _ (k : Kept) (sizes start goal actions : List ℕ) where
-  pub file_within : Sound k → Lent (memory sizes start goal actions)
-      → file_length (length (take k.sizes sizes)) (length (take k.starts start)) (length (take (pair_bytes * k.goals) goal)) (length (take k.bytes actions)) ≤ max_file
+module _ (k : Kept) (sizes start goal actions : List ℕ) (b : Memory) (e : b ≡ kept_of k (memory sizes start goal actions)) where
+  pub file_within : Sound k → Lent (memory sizes start goal actions) → file_length (length b.sizes) (length b.start) (length b.goal) (length b.actions) ≤ max_file
   file_within s l =
-      omega (
+      rw e
+      (omega (
         arith,
         sizes_part k s sizes start goal actions l,
         start_part k s sizes start goal actions l,
@@ -115,19 +115,19 @@ module _ (k : Kept) (sizes start goal actions : List ℕ) where
         s.goals,
         s.actions,
         s.bytes,
-      )
+      ))
 
   pub file_room : (room : ℕ) → length (file_kept k (memory sizes start goal actions)) ≤ room
-      → file_length (length (take k.sizes sizes)) (length (take k.starts start)) (length (take (pair_bytes * k.goals) goal)) (length (take k.bytes actions)) ≤ room
+      → file_length (length b.sizes) (length b.start) (length b.goal) (length b.actions) ≤ room
   unfolding file_kept
-  file_room room h = omega (arith, h, laid_length (take k.sizes sizes) (take k.starts start) (take (pair_bytes * k.goals) goal) (take k.bytes actions))
+  file_room room h =
+      rw e (omega (arith, h, laid_length (take k.sizes sizes) (take k.starts start) (take (pair_bytes * k.goals) goal) (take k.bytes actions)))
 
-  pub file_long : (end : ℕ) → end ≡ length (laid_out (take k.sizes sizes) (take k.starts start) (take (pair_bytes * k.goals) goal) (take k.bytes actions))
-      → end ≡ length (file_kept k (memory sizes start goal actions))
+  pub file_long : (end : ℕ) → end ≡ length (laid_out b.sizes b.start b.goal b.actions) → end ≡ length (file_kept k (memory sizes start goal actions))
   unfolding file_kept
-  file_long end e = e
+  file_long end f = f ∙ ap (λ b. length (laid_out b.sizes b.start b.goal b.actions)) e
 
-  pub file_left : (room after : List ℕ) → after ≡ over room 0 (laid_out (take k.sizes sizes) (take k.starts start) (take (pair_bytes * k.goals) goal) (take k.bytes actions))
+  pub file_left : (room after : List ℕ) → after ≡ over room 0 (laid_out b.sizes b.start b.goal b.actions)
       → after ≡ lent_after Accepted (file_kept k (memory sizes start goal actions)) room
   unfolding file_kept
-  file_left room after e = e ∙ written_front room _
+  file_left room after f = f ∙ ap (λ b. over room 0 (laid_out b.sizes b.start b.goal b.actions)) e ∙ written_front room _

@@ -313,12 +313,15 @@ last_line t =
     (unless_refused i.verdict
     (taken (last_said (says_as (line_due i.position) (one_more i.lines) (take i.held t.line)) (line_due i.position) i) t.memory t.line) t)
 
+-- as much of each body as is kept
+abbrev pub kept_of : Kept → Memory → Memory
+kept_of k m = memory (take k.sizes m.sizes) (take k.starts m.start) (take (pair_bytes * k.goals) m.goal) (take k.bytes m.actions)
+
 unfoldable pub rules_kept : Kept → Memory → Verdict
-rules_kept k m =
-    judge (bodies_rules (take k.sizes m.sizes) (take k.starts m.start) (take (pair_bytes * k.goals) m.goal) (take k.bytes m.actions))
+rules_kept k m = let b : Memory = kept_of k m in judge (bodies_rules b.sizes b.start b.goal b.actions)
 
 unfoldable pub file_kept : Kept → Memory → List ℕ
-file_kept k m = laid_out (take k.sizes m.sizes) (take k.starts m.start) (take (pair_bytes * k.goals) m.goal) (take k.bytes m.actions)
+file_kept k m = let b : Memory = kept_of k m in laid_out b.sizes b.start b.goal b.actions
 
 -- refusals 3 to 7, then 10
 abbrev pub verdict_kept : Excess → Kept → Memory → (room : ℕ) → Verdict

@@ -52,12 +52,8 @@ fn rules_kept(kept: Kept, bodies: Bodies<'_>) -> Verdict
     requires { Sound kept × Lent (read_from bodies) }
     ensures { result ≡ rules_kept kept (read_from bodies.entry) }
 {
-    reader::file::bodies_verdict(
-        &bodies.sizes[..kept.sizes],
-        &bodies.start[..kept.starts],
-        &bodies.goal[..PAIR_BYTES * kept.goals],
-        &bodies.actions[..kept.bytes],
-    )
+    let file = bodies.kept(kept);
+    reader::file::bodies_verdict(file.sizes, file.start, file.goal, file.actions)
 }
 
 // Refusal 10, where so many bytes are needed.
@@ -104,13 +100,8 @@ fn write_kept(kept: Kept, bodies: Bodies<'_>, room: &mut [u8]) -> usize
     requires { Sound kept × Lent (read_from bodies) × (length (file_kept kept (read_from bodies)) ≤ length room.old) }
     ensures { (result ≡ length (file_kept kept (read_from bodies.entry))) × (room.new ≡ lent_after Accepted (file_kept kept (read_from bodies.entry)) room.old) }
 {
-    writer::write_file(
-        room,
-        &bodies.sizes[..kept.sizes],
-        &bodies.start[..kept.starts],
-        &bodies.goal[..PAIR_BYTES * kept.goals],
-        &bodies.actions[..kept.bytes],
-    )
+    let file = bodies.kept(kept);
+    writer::write_file(room, file.sizes, file.start, file.goal, file.actions)
 }
 
 impl Intake {

@@ -1,6 +1,10 @@
 // The parts of memory that are lent for the bodies of a task.
 ghost use Rattle.std.specs.Prelude.{◌≡◌};
-ghost use Rattle.translator.specs.Intake.{read_from, lent_in};
+ghost use Rattle.bodies.specs.Keeping.{Sound};
+ghost use Rattle.translator.specs.Intake.{read_from, lent_in, kept_of, Lent};
+
+use bodies::Kept;
+use reader::limits::PAIR_BYTES;
 
 // What is kept of each body, to be read.
 #[derive(Clone, Copy)]
@@ -18,6 +22,21 @@ pub(crate) struct Parts<'a> {
     pub start: &'a mut [u8],
     pub goal: &'a mut [u8],
     pub actions: &'a mut [u8],
+}
+
+impl<'a> Bodies<'a> {
+    // As much of each as is kept.
+    pub(crate) fn kept(self, kept: Kept) -> Bodies<'a>
+        requires { Sound kept × Lent (read_from self) }
+        ensures { read_from result ≡ kept_of kept (read_from self.entry) }
+    {
+        Bodies {
+            sizes: &self.sizes[..kept.sizes],
+            start: &self.start[..kept.starts],
+            goal: &self.goal[..PAIR_BYTES * kept.goals],
+            actions: &self.actions[..kept.bytes],
+        }
+    }
 }
 
 impl Parts<'_> {
