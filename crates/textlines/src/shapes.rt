@@ -124,16 +124,10 @@ pub fn fact_line(at: usize, line: &[u8]) -> Result<Numbers, Refusal>
 fn is_effect(line: &[u8]) -> bool
     ensures { result ≡ is_effect line.now }
 {
-    if !words::has_words(line, EFFECT_WORDS) {
-        return false;
-    }
-    if !plain::is_plain_at(line, VARIABLE_AT) {
-        return false;
-    }
-    if !plain::is_signed(words::word_at(line, OLD_AT)) {
-        return false;
-    }
-    plain::is_plain_at(line, NEW_AT)
+    words::has_words(line, EFFECT_WORDS)
+        && plain::is_plain_at(line, VARIABLE_AT)
+        && plain::is_signed(words::word_at(line, OLD_AT))
+        && plain::is_plain_at(line, NEW_AT)
 }
 
 // The old value that an effect's line says.
