@@ -2,7 +2,7 @@
 -- Assumes nothing.
 use Prim.Native.Nat.{ℕ, ◌*◌, ◌≤◌}
 use mathlib.Core.Path.{◌≡◌, sym, ap, ◌∙◌}
-use mathlib.Core.Bool.{Bool, true, false, not}
+use mathlib.Core.Bool.{true}
 use mathlib.Core.List.{List, []}
 use native.Mathlib.Omega.{arith}
 use borrow.Author.Tests.{leb-true}
@@ -27,9 +27,8 @@ use Rattle.bodies.specs.declared.Kept.{Kept}
 use Rattle.bodies.specs.declared.Excess.{Excess}
 use Rattle.bodies.specs.declared.Excess.TheVariants.{Within, Lengths, Actions}
 use Rattle.bodies.specs.Keeping.{Sound}
-use Rattle.translator.specs.Intake.{Memory, memory, kept_of, Lent, taken, Ready, has_room, rules_kept, file_kept, verdict_kept, stops_early, verdict_at_end}
+use Rattle.translator.specs.Intake.{Memory, memory, kept_of, Lent, rules_kept, file_kept, verdict_kept, stops_early, verdict_at_end}
 use Rattle.translator.specs.declared.intake.Intake.{Intake}
-use Rattle.translator.proofs.RoomLaws.{room_ready}
 
 -- ---- a text that stops early
 
