@@ -11,6 +11,7 @@ use borrow.Author.Tests.{ne_eqb, eqb-true, ltb-true}
 use lib.Dec.{eqb, leb, ltb}
 use lib.ListN.{length, take, drop, get_or, length-take, drop_of_length-le}
 use lib.Seq.{drop-cons, take_all}
+use Rattle.std.specs.Prelude.{Result}
 use Rattle.rules.specs.Limits.{max_text_digits}
 use Rattle.rules.specs.Answers.{Rule, demand, judge}
 use Rattle.rules.specs.Task.{Pair}
@@ -19,11 +20,11 @@ use Rattle.rules.specs.Lines.{onto, pieces, agree, same, value_from}
 use Rattle.rules.specs.Format.{Stated, Shape, keyword, name, version, metric, layer, number, fact, effect, axiom_count, nothing, shape_of, line_rules, word_at, word_count, is_plain, is_minus_one, number_at, line_number}
 use Rattle.rules.specs.declared.FormatLine.{FormatLine}
 use Rattle.rules.specs.declared.FormatLine.TheVariants.{BeginVersion, Version, EndVersion, BeginMetric, Metric, EndMetric, VariableCount, BeginVariable, VariableName, AxiomLayer, Range, AtomName, EndVariable, MutexGroupCount, BeginMutexGroup, MutexFactCount, MutexFact, EndMutexGroup, BeginState, StateValue, EndState, BeginGoal, GoalCount, GoalFact, EndGoal, OperatorCount, BeginOperator, OperatorName, PrevailCount, PrevailCondition, EffectCount, Effect, Cost, EndOperator, AxiomCount, EndOfText}
+use Rattle.rules.specs.declared.Refusal.{Refusal}
 use Rattle.rules.specs.declared.Refusal.TheVariants.{AgainstFormat, AxiomOrCondition}
 use Rattle.rules.proofs.Bools.{either, clash, and_left, and_right, below_or}
 use Rattle.textlines.specs.Says.{no_numbers, numbers_in, said_by, shape_says, says_as, against_format, deciding, is_fact, is_signed, is_effect}
 use Rattle.textlines.specs.declared.Numbers.{Numbers}
-use Rattle.textlines.specs.declared.Said.{Said}
 use Rattle.textlines.proofs.PlainLaws.{plain_long}
 use Rattle.textlines.proofs.ShapeLaws.{stops}
 
@@ -216,19 +217,19 @@ all_fit EndOfText = refl
 -- ---- a long line is answered by its first word alone
 
 module _ (at : ℕ) where
-  record ByFirst (says : List ℕ → Said) : Type 0 where
-    by : List ℕ → Said
+  record ByFirst (says : List ℕ → Result Numbers Refusal) : Type 0 where
+    by : List ℕ → Result Numbers Refusal
     long : (s : List ℕ) → deciding ≤ length s → says s ≡ by (word_at s 0)
     against : (w : List ℕ) → max_text_digits < length w → by w ≡ against_format at
 
-  first_same : (says : List ℕ → Said) (f : ByFirst says) (w : List ℕ) → f.by w ≡ f.by (take deciding w)
+  first_same : (says : List ℕ → Result Numbers Refusal) (f : ByFirst says) (w : List ℕ) → f.by w ≡ f.by (take deciding w)
   first_same says f w =
       ⊎_elim
       (λ l. f.against w (omega arith) ∙ sym (f.against (take deciding w) (omega (arith, length-take deciding w))))
       (λ l. ap f.by (sym (take_all deciding w l)))
       (below_or deciding (length w))
 
-  decided : (says : List ℕ → Said) → ByFirst says → (line : List ℕ) → says line ≡ says (take deciding line)
+  decided : (says : List ℕ → Result Numbers Refusal) → ByFirst says → (line : List ℕ) → says line ≡ says (take deciding line)
   decided says f line =
       ⊎_elim
       (λ l.
@@ -240,7 +241,7 @@ module _ (at : ℕ) where
       (below_or deciding (length line))
 
   -- refused whatever its first word is
-  never : (says : List ℕ → Said) → ((s : List ℕ) → deciding ≤ length s → says s ≡ against_format at) → ByFirst says
+  never : (says : List ℕ → Result Numbers Refusal) → ((s : List ℕ) → deciding ≤ length s → says s ≡ against_format at) → ByFirst says
   never says h = record { by = λ w. against_format at; long = h; against = λ w l. refl }
 
   -- the first word, the number that it has to be, and the rest

@@ -99,15 +99,3 @@ module _ (line : List ℕ) (end : ℕ) (ends : EndsAt line 0 end) where
       pub by_value : not b ≡ false → (c : Bool) → c ≡ is_plain (take (length line - (end + 1)) (drop (end + 1) line)) → c ≡ is_fact line
       by_value t c e =
           e ∙ ap is_plain (from line (end + 1)) ∙ ap (λ p. p && is_plain (drop (end + 1) line)) (sym (sym variable ∙ not_false b t)) ∙ by_sides
-
--- ---- the words of a fact
-
-module _ (line : List ℕ) (b : Bool) (is : b ≡ is_fact line) (t : not b ≡ false) where
-  pub fact_plain_variable : is_plain (word_at line 0) ≡ true
-  unfolding is_fact
-  fact_plain_variable =
-      and_right (eqb (word_count line) 2) (is_plain (word_at line 0)) (and_left _ (is_plain (word_at line 1)) (sym is ∙ not_false b t))
-
-  pub fact_plain_value : is_plain (word_at line 1) ≡ true
-  unfolding is_fact
-  fact_plain_value = and_right (eqb (word_count line) 2 && is_plain (word_at line 0)) (is_plain (word_at line 1)) (sym is ∙ not_false b t)

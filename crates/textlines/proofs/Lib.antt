@@ -1,7 +1,6 @@
 -- What is proved of the lines of the translator's text.
 pub mod WordPlaces
 pub mod PlainLaws
-pub mod PartLaws
 pub mod ShapeLaws
 pub mod FactLaws
 pub mod OneAnswer

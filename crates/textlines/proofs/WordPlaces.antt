@@ -1,17 +1,21 @@
 -- Laws of words by their place: the words from a place of the line on are the one that begins there and those behind its end.
 -- Assumes nothing.
-use mathlib.Core.Path.{◌≡◌, sym, ap, ap₂, ◌∙◌}
-use mathlib.Core.Bool.{false}
+use mathlib.Core.Path.{◌≡◌, refl, sym, ap, ap₂, ◌∙◌}
 use mathlib.Core.List.{List, [], ◌∷◌}
 use Prim.Native.Nat.{ℕ, zero, suc, ◌+◌, ◌-◌, ◌≤◌, ◌<◌}
 use native.Mathlib.Omega.{arith}
 use native.Mathlib.Numerals.{add-one}
-use borrow.Author.Tests.{eq-eqb, ne_eqb, eqb-true}
+use borrow.Author.Tests.{eq-eqb, eqb-true}
 use lib.Dec.{eqb, eqb-suc-suc}
 use lib.ListN.{length, take, drop, get_or, drop_of_length-le}
-use lib.Seq.{drop-cons, drop-drop, take-nil}
+use lib.Seq.{drop-cons, drop-drop}
 use Rattle.rules.specs.Text.{space}
-use Rattle.rules.specs.Lines.{pieces}
+use denote.Ref.{Bor}
+use Rattle.std.specs.Prelude.{Option, None, Some}
+use Rattle.std.specs.Option.{unwrap_or, option_map}
+use Rattle.std.proofs.lemmas.Option.{unwrap_or-slice_get}
+use Rattle.std.specs.List.{slice_get, slice_split, onto_first}
+use Rattle.rules.specs.Lines.{onto, pieces}
 use Rattle.rules.specs.Format.{word_at, word_count}
 use Rattle.rules.proofs.Bools.{same_truth}
 use Rattle.lent_bytes.specs.Words.{length_until, pieces_behind, EndsAt}
@@ -52,11 +56,6 @@ word_later s w ws zero e h = absurd (omega arith)
 word_later s w ws (suc k) e h = let less : k ≡ suc k - 1 = omega arith in ap (λ l. get_or l (suc k) []) e ∙ ap (λ n. get_or ws n []) less
 
 module _ (line : List ℕ) (at end before i : ℕ) (left : word_at (drop at line) before ≡ word_at line i) (ends : EndsAt line at end) where
-  pub word_none : 0 < before → end ≡ length line → take (length line - end) (drop end line) ≡ word_at line i
-  word_none h e =
-      let none : drop end line ≡ [] = drop_of_length-le line {i = end} (omega arith) in
-      ap (take (length line - end)) none ∙ take-nil (length line - end) ∙ sym (word_later _ _ _ before (pieces_last line at end ends e) h) ∙ left
-
   pub word_on : 0 < before → (end ≡ length line → ⊥) → word_at (drop (end + 1) line) (before - 1) ≡ word_at line i
   unfolding word_at
   word_on h e = sym (word_later _ _ _ before (pieces_next line at end ends e) h) ∙ left
@@ -79,9 +78,6 @@ eqb_less a zero h = absurd (omega arith)
 eqb_less a (suc b) h = let less : b ≡ suc b - 1 = omega arith in eqb-suc-suc a b ∙ ap (eqb a) less
 
 module _ (line : List ℕ) (at left count : ℕ) (same : eqb (word_count (drop at line)) left ≡ eqb (word_count line) count) where
-  pub count_none : left ≤ 0 → false ≡ eqb (word_count line) count
-  count_none h = sym (ne_eqb (word_count (drop at line)) left (λ e. omega (arith, e, count_some (drop at line)))) ∙ same
-
   module _ (end : ℕ) (ends : EndsAt line at end) where
     pub count_last : 0 < left → end ≡ length line → eqb left 1 ≡ eqb (word_count line) count
     unfolding word_count
@@ -90,3 +86,29 @@ module _ (line : List ℕ) (at left count : ℕ) (same : eqb (word_count (drop a
     pub count_on : 0 < left → (end ≡ length line → ⊥) → eqb (word_count (drop (end + 1) line)) (left - 1) ≡ eqb (word_count line) count
     unfolding word_count
     count_on h e = sym (eqb_less (word_count (drop (end + 1) line)) left h) ∙ sym (ap (λ l. eqb (length l) left) (pieces_next line at end ends e)) ∙ same
+
+-- ---- a line that is split at its spaces
+
+onto_is : (b : ℕ) (ps : List (List ℕ)) → onto_first b ps ≡ onto b ps
+onto_is b [] = refl
+onto_is b (p ∷ ps) = refl
+
+pub line_split : (s : List ℕ) → slice_split (λ b. eqb b space) s ≡ pieces space s
+unfolding pieces
+line_split [] = refl
+line_split (b ∷ s) = rw (line_split s, onto_is b (pieces space s)) refl
+
+pub count_split : (s : List ℕ) (n count : ℕ) → n ≡ length (slice_split (λ b. eqb b space) s) → eqb n count ≡ eqb (word_count s) count
+unfolding word_count
+count_split s n count e = ap (λ m. eqb m count) (e ∙ ap length (line_split s))
+
+module _ (s : List ℕ) (i : ℕ) (d w : Bor (List ℕ)) where
+  unwrapped : (r : Option (Bor (List ℕ))) → w ≡ unwrap_or r d → d.now ≡ [] → w.now ≡ unwrap_or (option_map (λ b. b.now) r) []
+  unwrapped None e n = ap (λ b. b.now) e ∙ n
+  unwrapped (Some b) e n = ap (λ b. b.now) e
+
+  pub word_split : (r : Option (Bor (List ℕ))) → option_map (λ b. b.now) r ≡ slice_get (slice_split (λ b. eqb b space) s) i
+      → w ≡ unwrap_or r d → d.now ≡ [] → w.now ≡ word_at s i
+  unfolding word_at
+  word_split r e u n =
+      unwrapped r u n ∙ ap (λ o. unwrap_or o []) e ∙ unwrap_or-slice_get (slice_split (λ b. eqb b space) s) i [] ∙ ap (λ l. get_or l i []) (line_split s)

@@ -10,26 +10,13 @@ ghost use Rattle.textlines.specs.Says.{is_fact, says_as};
 
 use rules::{FormatLine, Refusal};
 
-// The old value of an effect: -1 stands for any.
-#[derive(Clone, Copy)]
-pub enum OldValue {
-    Any,
-    Is(usize),
-}
-
-// The numbers of a line: a count, a size or a value; a fact's variable and value; an effect's variable, new value and old value.
+// The numbers of a line: a count, a size or a value; a fact's variable and value; an effect's variable, new value and old value. An old value that
+// may be any, -1 in the text, is none.
 #[derive(Clone, Copy)]
 pub struct Numbers {
     pub first: usize,
     pub second: usize,
-    pub old: OldValue,
-}
-
-// What a line says, or why it is refused.
-#[derive(Clone, Copy)]
-pub enum Said {
-    Says(Numbers),
-    Refused(Refusal),
+    pub old: Option<usize>,
 }
 
 // Whether a line is a fact, which is all that is asked of a mutex group's: it is cut at its first space alone, since no number has one.
@@ -46,8 +33,9 @@ pub fn is_fact(line: &[u8]) -> bool
     plain::is_plain(&line[end + 1..])
 }
 
-// What a line says where a line of some kind is due; `at` is its number in the text.
-pub fn says(due: FormatLine, at: usize, line: &[u8]) -> Said
+// What a line says where a line of some kind is due, or why it is refused; `at` is its number in the text.
+#[tactic(auto, using(crate::proofs::ShapeLaws::says_arms), unfolding(crate::specs::Says::says_as, rules::specs::Text::ascii))]
+pub fn says(due: FormatLine, at: usize, line: &[u8]) -> Result<Numbers, Refusal>
     ensures { result ≡ says_as due at line.now }
 {
     match due {

@@ -12,51 +12,33 @@ const MAX_DIGITS: usize = 6;
 fn all_digits(word: &[u8]) -> bool
     ensures { result ≡ every is_digit word.now }
 {
-    let mut i = 0;
-    while i < word.len() {
-        if !lent_bytes::words::is_digit(word[i]) {
-            return false;
-        }
-        i += 1;
-    }
-    true
+    word.iter().all(|&b| lent_bytes::words::is_digit(b))
 }
 
 // Whether a word is a number.
+#[tactic(auto, unfolding(rules::specs::Format::is_plain))]
 pub fn is_plain(word: &[u8]) -> bool
     ensures { result ≡ is_plain word.now }
 {
-    if word.len() == 0 {
-        return false;
-    }
-    if MAX_DIGITS < word.len() {
-        return false;
-    }
-    if !all_digits(word) {
-        return false;
-    }
-    if word.len() == 1 {
-        return true;
-    }
-    lent_bytes::byte_at(word, 0) != b'0'
+    !word.is_empty()
+        && word.len() <= MAX_DIGITS
+        && all_digits(word)
+        && (word.len() == 1 || word[0] != b'0')
 }
 
 #[tactic(auto, unfolding(rules::specs::Text::ascii, rules::specs::Format::is_minus_one))]
 pub fn is_minus_one(word: &[u8]) -> bool
     ensures { result ≡ is_minus_one word.now }
 {
-    let minus_one = b"-1";
-    lent_bytes::texts::is_same(word, minus_one)
+    lent_bytes::texts::is_same(word, b"-1")
 }
 
 // Whether a word is a number or -1.
+#[tactic(auto, unfolding(crate::specs::Says::is_signed))]
 pub fn is_signed(word: &[u8]) -> bool
     ensures { result ≡ is_signed word.now }
 {
-    if is_plain(word) {
-        return true;
-    }
-    is_minus_one(word)
+    is_plain(word) || is_minus_one(word)
 }
 
 // The number that a word is.
@@ -75,6 +57,7 @@ pub fn is_plain_at(line: &[u8], i: usize) -> bool
 }
 
 // The number that word i of a line is.
+#[tactic(auto, unfolding(rules::specs::Format::number_at))]
 pub fn number_at(line: &[u8], i: usize) -> usize
     requires { is_plain (word_at line.now i) ≡ true }
     ensures { result ≡ number_at line.now i }

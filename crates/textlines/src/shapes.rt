@@ -1,9 +1,11 @@
 // A line of each shape: the rules of its shape in their order, then the numbers that it says.
+#![tactic(auto, unfolding(crate::specs::Says::shape_says, crate::specs::Says::numbers_in, crate::specs::Says::is_fact, crate::specs::Says::is_signed, crate::specs::Says::is_effect, rules::specs::Format::line_rules, rules::specs::Format::line_number, rules::specs::Format::number_at, rules::specs::Answers::judge))]
+
 ghost use Rattle.std.specs.Prelude.{true, ◌≡◌};
 ghost use Rattle.rules.specs.Format.{keyword, version, metric, layer, effect, axiom_count, word_at};
 ghost use Rattle.textlines.specs.Says.{says_nothing, against_format, old_in, shape_says, a_number, a_fact, is_signed, is_effect};
 
-use crate::{Numbers, OldValue, Said, is_fact, plain, words};
+use crate::{Numbers, is_fact, plain, words};
 use rules::Refusal;
 
 const FORMAT_VERSION: usize = 3;
@@ -24,23 +26,23 @@ const OLD_AT: usize = 2;
 
 const NEW_AT: usize = 3;
 
-pub fn nothing_said() -> Said
+pub fn nothing_said() -> Result<Numbers, Refusal>
     ensures { result ≡ says_nothing }
 {
-    Said::Says(Numbers {
+    Ok(Numbers {
         first: 0,
         second: 0,
-        old: OldValue::Any,
+        old: None,
     })
 }
 
-pub fn against_format(at: usize) -> Said
+pub fn against_format(at: usize) -> Result<Numbers, Refusal>
     ensures { result ≡ against_format at }
 {
-    Said::Refused(Refusal::AgainstFormat(at))
+    Err(Refusal::AgainstFormat(at))
 }
 
-pub fn keyword_line(at: usize, line: &[u8], word: &[u8]) -> Said
+pub fn keyword_line(at: usize, line: &[u8], word: &[u8]) -> Result<Numbers, Refusal>
     ensures { result ≡ shape_says (keyword word.now) at line.now }
 {
     if !lent_bytes::texts::is_same(line, word) {
@@ -49,19 +51,19 @@ pub fn keyword_line(at: usize, line: &[u8], word: &[u8]) -> Said
     nothing_said()
 }
 
-pub fn version_line(at: usize, line: &[u8]) -> Said
+pub fn version_line(at: usize, line: &[u8]) -> Result<Numbers, Refusal>
     ensures { result ≡ shape_says version at line.now }
 {
     if !plain::is_plain(line) {
         return against_format(at);
     }
     if plain::number(line) != FORMAT_VERSION {
-        return Said::Refused(Refusal::OtherVersion(at));
+        return Err(Refusal::OtherVersion(at));
     }
     nothing_said()
 }
 
-pub fn metric_line(at: usize, line: &[u8]) -> Said
+pub fn metric_line(at: usize, line: &[u8]) -> Result<Numbers, Refusal>
     ensures { result ≡ shape_says metric at line.now }
 {
     if !plain::is_plain(line) {
@@ -74,7 +76,7 @@ pub fn metric_line(at: usize, line: &[u8]) -> Said
 }
 
 // A variable's axiom layer: any other than -1 is refused before the rest of its line is read.
-pub fn layer_line(at: usize, line: &[u8]) -> Said
+pub fn layer_line(at: usize, line: &[u8]) -> Result<Numbers, Refusal>
     ensures { result ≡ shape_says layer at line.now }
 {
     let first = words::word_at(line, 0);
@@ -82,7 +84,7 @@ pub fn layer_line(at: usize, line: &[u8]) -> Said
         return against_format(at);
     }
     if !plain::is_minus_one(first) {
-        return Said::Refused(Refusal::AxiomOrCondition(at));
+        return Err(Refusal::AxiomOrCondition(at));
     }
     if !words::has_words(line, 1) {
         return against_format(at);
@@ -91,30 +93,30 @@ pub fn layer_line(at: usize, line: &[u8]) -> Said
 }
 
 // A line that is one number.
-pub fn number_line(at: usize, line: &[u8]) -> Said
+pub fn number_line(at: usize, line: &[u8]) -> Result<Numbers, Refusal>
     ensures { result ≡ shape_says a_number at line.now }
 {
     if !plain::is_plain(line) {
         return against_format(at);
     }
-    Said::Says(Numbers {
+    Ok(Numbers {
         first: plain::number(line),
         second: 0,
-        old: OldValue::Any,
+        old: None,
     })
 }
 
 // A variable and a value.
-pub fn fact_line(at: usize, line: &[u8]) -> Said
+pub fn fact_line(at: usize, line: &[u8]) -> Result<Numbers, Refusal>
     ensures { result ≡ shape_says a_fact at line.now }
 {
     if !is_fact(line) {
         return against_format(at);
     }
-    Said::Says(Numbers {
+    Ok(Numbers {
         first: plain::number_at(line, FACT_VARIABLE_AT),
         second: plain::number_at(line, FACT_VALUE_AT),
-        old: OldValue::Any,
+        old: None,
     })
 }
 
@@ -122,44 +124,38 @@ pub fn fact_line(at: usize, line: &[u8]) -> Said
 fn is_effect(line: &[u8]) -> bool
     ensures { result ≡ is_effect line.now }
 {
-    if !words::has_words(line, EFFECT_WORDS) {
-        return false;
-    }
-    if !plain::is_plain_at(line, VARIABLE_AT) {
-        return false;
-    }
-    if !plain::is_signed(words::word_at(line, OLD_AT)) {
-        return false;
-    }
-    plain::is_plain_at(line, NEW_AT)
+    words::has_words(line, EFFECT_WORDS)
+        && plain::is_plain_at(line, VARIABLE_AT)
+        && plain::is_signed(words::word_at(line, OLD_AT))
+        && plain::is_plain_at(line, NEW_AT)
 }
 
 // The old value that an effect's line says.
-fn old_in(line: &[u8]) -> OldValue
+fn old_in(line: &[u8]) -> Option<usize>
     requires { is_signed (word_at line.now 2) ≡ true }
     ensures { result ≡ old_in line.now }
 {
     let old = words::word_at(line, OLD_AT);
     if plain::is_minus_one(old) {
-        return OldValue::Any;
+        return None;
     }
-    OldValue::Is(plain::number(old))
+    Some(plain::number(old))
 }
 
 // An effect: the count of its conditions, which is 0 or refused before the rest is read, the variable, its old and its new value.
-pub fn effect_line(at: usize, line: &[u8]) -> Said
+pub fn effect_line(at: usize, line: &[u8]) -> Result<Numbers, Refusal>
     ensures { result ≡ shape_says effect at line.now }
 {
     if !plain::is_plain_at(line, 0) {
         return against_format(at);
     }
     if plain::number_at(line, 0) != 0 {
-        return Said::Refused(Refusal::AxiomOrCondition(at));
+        return Err(Refusal::AxiomOrCondition(at));
     }
     if !is_effect(line) {
         return against_format(at);
     }
-    Said::Says(Numbers {
+    Ok(Numbers {
         first: plain::number_at(line, VARIABLE_AT),
         second: plain::number_at(line, NEW_AT),
         old: old_in(line),
@@ -167,14 +163,14 @@ pub fn effect_line(at: usize, line: &[u8]) -> Said
 }
 
 // The count of axioms: any other than 0 is refused before the rest of its line is read.
-pub fn axiom_count_line(at: usize, line: &[u8]) -> Said
+pub fn axiom_count_line(at: usize, line: &[u8]) -> Result<Numbers, Refusal>
     ensures { result ≡ shape_says axiom_count at line.now }
 {
     if !plain::is_plain_at(line, 0) {
         return against_format(at);
     }
     if plain::number_at(line, 0) != 0 {
-        return Said::Refused(Refusal::AxiomOrCondition(at));
+        return Err(Refusal::AxiomOrCondition(at));
     }
     if !words::has_words(line, 1) {
         return against_format(at);

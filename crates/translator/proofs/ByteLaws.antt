@@ -4,20 +4,23 @@ use Prim.Native.Nat.{ℕ, zero, suc, ◌+◌, ◌-◌, ◌≤◌, ◌<◌}
 use mathlib.Core.Path.{◌≡◌, refl, sym, ap, ap₂, ◌∙◌}
 use mathlib.Core.Bool.{Bool, true, false, not, ◌&&◌}
 use mathlib.Core.List.{List}
+use mathlib.Core.Logic.{◌≢◌}
 use native.Mathlib.Omega.{arith}
 use native.Mathlib.Nat.{add-zero, add-suc}
 use native.Mathlib.Numerals.{add-one}
-use borrow.Author.Tests.{eq-eqb, le-leb, lt-leb, leb-true}
+use borrow.Author.Tests.{eq-eqb, ne_eqb, le-leb, leb-true}
 use lib.Dec.{eqb, leb}
-use lib.ListN.{length, get_or, drop, set, drop_of_length-le}
-use lib.Seq.{drop-cons}
+use lib.ListN.{length, get_or, take, drop, set, length-drop, drop_of_length-le}
+use lib.Seq.{drop-cons, get_or-drop, take_all as take_whole}
+use Rattle.std.specs.Prelude.{Option, None, Some}
+use Rattle.std.specs.Option.{MatchOption, unwrap_or}
+use Rattle.std.specs.List.{AllWithin, HoldsAt}
 use Rattle.rules.specs.Text.{lf}
 use Rattle.rules.specs.declared.Refusal.{Refusal}
 use Rattle.rules.specs.declared.Refusal.TheVariants.{Room}
 use Rattle.rules.specs.declared.Verdict.TheVariants.{Accepted, Refused}
 use Rattle.rules.proofs.Bools.{clash, and_left, and_right, not_true, not_false}
-use Rattle.bodies.specs.Keeping.{Sound}
-use Rattle.translator.specs.Intake.{Memory, head_room, Taken, taken, Ready, end_line, with_held, take_byte, take_all, SameRest, HeldUpTo, Passed, no_lf, block, half_block, quarter_block, block_passes, PassedUpTo, HeldLine, room_for, has_room, refused_for, take_call}
+use Rattle.translator.specs.Intake.{Memory, head_room, Taken, taken, end_line, with_held, take_byte, take_all, SameRest, HeldUpTo, Passed, no_lf, block, half_block, quarter_block, block_passes, PassedUpTo, HeldLine, has_room, refused_for, take_call}
 use Rattle.translator.specs.declared.intake.Intake.{Intake}
 use Rattle.translator.proofs.InPieces.{bytes_stay, byte_ends, byte_held, byte_passed}
 
@@ -26,12 +29,19 @@ pub next_byte : (t : Taken) (bytes : List ℕ) (n : ℕ) → n < length bytes �
 unfolding take_all
 next_byte t bytes n h = rw (add-one n, drop-cons bytes n 0 h)
 
+-- what is left from a place on, as a lent part has it
+pub left_from : (bytes : List ℕ) (at : ℕ) → take (length bytes - at) (drop at bytes) ≡ drop at bytes
+left_from bytes at = take_whole (length bytes - at) (drop at bytes) (omega (arith, length-drop at bytes))
+
 -- ---- bytes up to an LF or the end
 
 module _ (bytes : List ℕ) (at held : ℕ) (line : List ℕ) where
   pub rest_none : SameRest bytes at held line at held line
   unfolding SameRest
   rest_none i m e = refl
+
+  pub rest_start : SameRest bytes at held line (at + 0) (held + 0) line
+  rest_start = rw (add-zero at, add-zero held) rest_none
 
   module _ (n h : ℕ) (l : List ℕ) (rest : SameRest bytes at held line n h l) where
     rest_on : (h' : ℕ) (l' : List ℕ) → n < length bytes
@@ -41,8 +51,9 @@ module _ (bytes : List ℕ) (at held : ℕ) (line : List ℕ) where
     rest_on h' l' k o i m e =
         ap (λ t. take_all t (drop (n + 1) bytes)) (sym (o i m e)) ∙ sym (next_byte (taken (with_held h i) m l) bytes n k) ∙ rest i m e
 
-    pub rest_held : n < length bytes → (get_or bytes n 0 ≡ lf → ⊥) → h < head_room → SameRest bytes at held line (n + 1) (h + 1) (set l h (get_or bytes n 0))
-    rest_held k f r = rest_on (h + 1) (set l h (get_or bytes n 0)) k (λ i m e. byte_held (taken (with_held h i) m l) (get_or bytes n 0) e f r)
+    pub rest_held : (n' h' : ℕ) → n' ≡ n + 1 → h' ≡ h + 1 → n < length bytes → (get_or bytes n 0 ≡ lf → ⊥) → h < head_room
+        → SameRest bytes at held line n' h' (set l h (get_or bytes n 0))
+    rest_held n' h' a b k f r = rw (a, b) (rest_on (h + 1) (set l h (get_or bytes n 0)) k (λ i m e. byte_held (taken (with_held h i) m l) (get_or bytes n 0) e f r))
 
     rest_passed : n < length bytes → (get_or bytes n 0 ≡ lf → ⊥) → head_room ≤ h → SameRest bytes at held line (n + 1) h l
     rest_passed k f r = rest_on h l k (λ i m e. byte_passed (taken (with_held h i) m l) (get_or bytes n 0) e f r)
@@ -50,24 +61,16 @@ module _ (bytes : List ℕ) (at held : ℕ) (line : List ℕ) where
     pub up_to-lf : at ≤ n → n < length bytes → get_or bytes n 0 ≡ lf → h ≤ head_room → HeldUpTo bytes at held line n h l
     up_to-lf f k e r = record { from = f; within = omega arith; ends = λ z. e; fits = r; rest = rest }
 
-    pub up_to-end : at ≤ n → n ≤ length bytes → length bytes ≤ n → h ≤ head_room → HeldUpTo bytes at held line n h l
-    up_to-end f w k r = record { from = f; within = w; ends = λ z. absurd (omega arith); fits = r; rest = rest }
-
-    pub up_to-passed : (end : ℕ) → at ≤ n → head_room ≤ h → h ≤ head_room → PassedUpTo bytes n end → HeldUpTo bytes at held line end h l
+    pub up_to-passed : (n' end : ℕ) → n' ≡ n → at ≤ n → h ≡ head_room → PassedUpTo bytes n' end → HeldUpTo bytes at held line end head_room l
     unfolding SameRest Passed
-    up_to-passed end f g r p =
-        let full : h ≡ head_room = omega arith in
+    up_to-passed n' end same f full behind =
+        let p : PassedUpTo bytes n end = rw same at behind in
         record {
           from = omega (arith, p.from);
           within = p.within;
           ends = p.ends;
-          fits = r;
-          rest =
-              λ i m e.
-              ap (λ k. take_all (taken (with_held k i) m l) (drop end bytes)) full
-              ∙ p.rest l i m e
-              ∙ ap (λ k. take_all (taken (with_held k i) m l) (drop n bytes)) (sym full)
-              ∙ rest i m e;
+          fits = omega arith;
+          rest = λ i m e. p.rest l i m e ∙ ap (λ k. take_all (taken (with_held k i) m l) (drop n bytes)) (sym full) ∙ rest i m e;
         }
 
 -- ---- bytes without an LF
@@ -89,22 +92,12 @@ module _ (bytes : List ℕ) (at : ℕ) where
       rw (add-suc m n)
       (ap₂ (λ b k. b && not (eqb (get_or bytes k 0) lf)) (no_lf-more m n) place ∙ and_turned (no_lf bytes at m) (no_lf bytes (at + m) n) _)
 
-  pub no_lf-quarter :
-      (not (eqb (get_or bytes at 0) lf) && not (eqb (get_or bytes (at + 1) 0) lf) && not (eqb (get_or bytes (at + 2) 0) lf) && not (eqb (get_or bytes (at + 3) 0) lf))
-      ≡ no_lf bytes at quarter_block
-  unfolding no_lf
-  no_lf-quarter = rw (add-zero at)
-
   module _ (a b : Bool) where
     pub no_lf-half : a ≡ no_lf bytes at quarter_block → b ≡ no_lf bytes (at + quarter_block) quarter_block → (a && b) ≡ no_lf bytes at half_block
     no_lf-half e f = ap₂ ◌&&◌ e f ∙ sym (no_lf-more quarter_block quarter_block)
 
     pub no_lf-block : a ≡ no_lf bytes at half_block → b ≡ no_lf bytes (at + half_block) half_block → (a && b) ≡ no_lf bytes at block
     no_lf-block e f = ap₂ ◌&&◌ e f ∙ sym (no_lf-more half_block half_block)
-
-  pub no_block : at ≤ length bytes → length bytes - at < block → false ≡ block_passes bytes at
-  unfolding block_passes
-  no_block w h = ap (λ b. b && no_lf bytes at block) (sym (lt-leb (at + block) (length bytes) (omega arith)))
 
   pub block_passes_lem : (r : Bool) → block ≤ length bytes - at → r ≡ no_lf bytes at block → r ≡ block_passes bytes at
   unfolding block_passes
@@ -118,15 +111,9 @@ module _ (bytes : List ℕ) (at : ℕ) where
   passed_none line = rest_none bytes at head_room line
 
   module _ (n : ℕ) (passed : Passed bytes at n) where
-    pub passed_byte : n < length bytes → (get_or bytes n 0 ≡ lf → ⊥) → Passed bytes at (n + 1)
+    passed_byte : n < length bytes → (get_or bytes n 0 ≡ lf → ⊥) → Passed bytes at (n + 1)
     unfolding Passed
     passed_byte k f line = rest_passed bytes at head_room line n head_room line (passed line) k f (omega arith)
-
-    pub passed_to_lf : at ≤ n → n < length bytes → get_or bytes n 0 ≡ lf → PassedUpTo bytes at n
-    passed_to_lf f k e = record { from = f; within = omega arith; ends = λ z. e; rest = passed }
-
-    pub passed_to_end : at ≤ n → n ≤ length bytes → length bytes ≤ n → PassedUpTo bytes at n
-    passed_to_end f w k = record { from = f; within = w; ends = λ z. absurd (omega arith); rest = passed }
 
     pub passed_behind : at ≤ n → (end : ℕ) → PassedUpTo bytes n end → PassedUpTo bytes at end
     unfolding Passed SameRest
@@ -142,6 +129,33 @@ module _ (bytes : List ℕ) (at : ℕ) where
       rw (add-suc n c, ← add-one (n + c))
       (passed_byte (n + c) (passed_many n passed c (omega arith) others) (omega arith)
       (λ e. clash (eq-eqb (get_or bytes (n + c) 0) lf e) (not_true (eqb (get_or bytes (n + c) 0) lf) last)))
+
+  -- none of the bytes before the first LF is one
+  no_lf-before : (n : ℕ) → ((k : ℕ) → k < n → get_or bytes (at + k) 0 ≢ lf) → no_lf bytes at n ≡ true
+  unfolding no_lf
+  no_lf-before zero f = refl
+  no_lf-before (suc n) f = rw (no_lf-before n (λ k h. f k (omega arith)), ne_eqb (get_or bytes (at + n) 0) lf (f n (omega arith))) refl
+
+  passed_before : (n : ℕ) → at + n ≤ length bytes → AllWithin (λ b. b ≢ lf) (drop at bytes) 0 n → Passed bytes at (at + n)
+  passed_before n h w =
+      passed_many at passed_none n h (no_lf-before n (λ k f e. w k 0 (omega arith) f (get_or-drop at bytes k 0 ∙ e)))
+
+  pub passed_first : (n : ℕ) (r : Option ℕ) → at ≤ length bytes → n ≡ unwrap_or r (length bytes - at)
+      → MatchOption r (AllWithin (λ b. b ≢ lf) (drop at bytes) 0 (length (drop at bytes)))
+      (λ i. (i < length (drop at bytes)) × HoldsAt (λ b. b ≡ lf) (drop at bytes) i × AllWithin (λ b. b ≢ lf) (drop at bytes) 0 i)
+      → PassedUpTo bytes at (at + n)
+  passed_first n None h e all =
+      let whole : AllWithin (λ b. b ≢ lf) (drop at bytes) 0 n = rw (e, ← length-drop at bytes) all in
+      record { from = omega arith; within = omega (arith, e); ends = λ k. absurd (omega (arith, e)); rest = passed_before n (omega (arith, e)) whole }
+  passed_first n (Some i) h e m =
+      let short : i < length bytes - at = rw (length-drop at bytes) at m.0 in
+      rw e
+      (record {
+        from = omega arith;
+        within = omega arith;
+        ends = λ k. sym (get_or-drop at bytes i 0) ∙ m.1 0;
+        rest = passed_before i (omega arith) m.2;
+      })
 
   module _ (n : ℕ) (r : Bool) (is : r ≡ block_passes bytes n) (t : r ≡ true) where
     pub block_within : n + block ≤ length bytes
@@ -183,15 +197,9 @@ module _ (i : Intake) (line bytes : List ℕ) (at : ℕ) where
         rest = λ m. ap (λ b. take_all (taken b m l) (drop end bytes)) e ∙ u.rest i m v;
       }
 
-  pub held_sound : (then : Intake) (end : ℕ) (l : List ℕ) → HeldLine i line bytes at then end l → Sound i.kept → Sound then.kept
-  held_sound then end l w k = rw w.kept k
-
   module _ (then : Intake) (end : ℕ) (l : List ℕ) (w : HeldLine i line bytes at then end l) (m : Memory) where
     pub further_end : take_all (taken then m l) (drop end bytes) ≡ take_all (taken i m line) (drop at bytes)
     further_end = w.rest m
-
-    pub held_ready : length l ≡ length line → Ready (taken i m line) → Ready (taken then m l)
-    held_ready e r = record { kept = rw w.kept r.kept; held = w.fits; lent = r.lent; line = omega (arith, e, r.line) }
 
     pub further_line : (r : Intake) (after : Memory) → end < length bytes → taken r after l ≡ end_line (taken then m l)
         → take_all (taken r after l) (drop (end + 1) bytes) ≡ take_all (taken i m line) (drop at bytes)
@@ -206,12 +214,12 @@ further_on t u whole bytes n k e f = e ∙ f
 
 -- ---- the call
 
-module _ (i : Intake) (m : Memory) (line bytes : List ℕ) (r : Bool) (room : r ≡ room_for i.kept i.held (length m.sizes) (length m.start) (length m.goal) (length m.actions) (length line)) where
+module _ (i : Intake) (m : Memory) (line bytes : List ℕ) (r : Bool) (room : r ≡ has_room (taken i m line)) where
   pub call_short : (s : Intake) → not r ≡ true → s ≡ refused_for (Refused Room) i → taken s m line ≡ take_call (taken i m line) bytes
-  unfolding take_call has_room
+  unfolding take_call
   call_short s h e = rw (sym room ∙ not_true r h, e)
 
   pub call_done : (t : Taken) (n : ℕ) → not r ≡ false → length bytes ≤ n → take_all t (drop n bytes) ≡ take_all (taken i m line) bytes
       → t ≡ take_call (taken i m line) bytes
-  unfolding take_call take_all has_room
+  unfolding take_call take_all
   call_done t n h d k = rw (drop_of_length-le bytes d) at k ∙ rw (sym room ∙ not_false r h)

@@ -1,13 +1,11 @@
 -- The end of a text: its last line, the verdict, and the file.
 -- Assumes nothing.
-use Prim.Native.Nat.{ℕ, ◌*◌, ◌≤◌, ◌<◌}
-use mathlib.Core.Path.{◌≡◌, refl, sym, ap, ◌∙◌}
-use mathlib.Core.Bool.{Bool, true, false, not}
-use mathlib.Core.List.{List, [], ◌∷◌}
+use Prim.Native.Nat.{ℕ, ◌*◌, ◌≤◌}
+use mathlib.Core.Path.{◌≡◌, sym, ap, ◌∙◌}
+use mathlib.Core.Bool.{true}
+use mathlib.Core.List.{List, []}
 use native.Mathlib.Omega.{arith}
-use borrow.Author.Tests.{leb-true, le-leb, lt-leb}
-use denote.Enum.Declared.{tag_of}
-use types.Run.{OneOf, miss}
+use borrow.Author.Tests.{leb-true}
 use lib.Dec.{leb}
 use lib.ListN.{length, take}
 use lib.Seq.{length-take-le}
@@ -16,16 +14,12 @@ use Rattle.rules.specs.Answers.{judge, demand, in_turn}
 use Rattle.rules.specs.Calls.{room_rule, lent_after}
 use Rattle.rules.specs.Format.{shape_of}
 use Rattle.rules.specs.Translation.{is_end}
-use Rattle.rules.specs.declared.Refusal.{Refusal}
-use Rattle.rules.specs.declared.Refusal.TheVariants.{Room, BodyLength, ActionAtFault, AgainstFormat}
+use Rattle.rules.specs.declared.Refusal.TheVariants.{Room, BodyLength, ActionAtFault}
 use Rattle.rules.specs.declared.Verdict.{Verdict}
 use Rattle.rules.specs.declared.Verdict.TheVariants.{Accepted, Refused}
 use Rattle.rules.specs.declared.FormatLine.{FormatLine}
-use Rattle.rules.specs.declared.FormatLine.TheVariants.{BeginVersion, Version, EndVersion, BeginMetric, Metric, EndMetric, VariableCount, BeginVariable, VariableName, AxiomLayer, Range, AtomName, EndVariable, MutexGroupCount, BeginMutexGroup, MutexFactCount, MutexFact, EndMutexGroup, BeginState, StateValue, EndState, BeginGoal, GoalCount, GoalFact, EndGoal, OperatorCount, BeginOperator, OperatorName, PrevailCount, PrevailCondition, EffectCount, Effect, Cost, EndOperator, AxiomCount, EndOfText}
-use Rattle.rules.specs.contracts.FormatLine.{the_type}
-use Rattle.rules.proofs.Bools.{not_true, not_false}
-use Rattle.rules.proofs.Judging.{judge_nil, judge_refused, judge_passed, judge_head, in_turn-right, refused_not}
-use Rattle.reader.specs.Bodies.{bodies_rules}
+use Rattle.rules.specs.declared.FormatLine.TheVariants.{EndOfText}
+use Rattle.rules.proofs.Judging.{judge_head, in_turn-right, refused_not}
 use Rattle.digits.specs.Over.{over}
 use Rattle.writer.specs.Laid.{file_length, laid_out}
 use Rattle.writer.proofs.Laying.{laid_length, written_front}
@@ -33,78 +27,13 @@ use Rattle.bodies.specs.declared.Kept.{Kept}
 use Rattle.bodies.specs.declared.Excess.{Excess}
 use Rattle.bodies.specs.declared.Excess.TheVariants.{Within, Lengths, Actions}
 use Rattle.bodies.specs.Keeping.{Sound}
-use Rattle.translator.specs.Position.{line_due}
-use Rattle.translator.specs.Intake.{Memory, memory, Lent, one_more, taken, Ready, room_for, has_room, last_line, rules_kept, file_kept, verdict_kept, stops_early, verdict_at_end, end_verdict, translation, ended, end_with, EndsWith, finish_call}
-use Rattle.translator.specs.declared.position.Position.{Position}
+use Rattle.translator.specs.Intake.{Memory, memory, kept_of, Lent, rules_kept, file_kept, verdict_kept, stops_early, verdict_at_end}
 use Rattle.translator.specs.declared.intake.Intake.{Intake}
-use Rattle.translator.specs.declared.intake.Translation.{Translation}
-use Rattle.translator.proofs.RoomLaws.{room_ready}
 
 -- ---- a text that stops early
 
 pub end_line_lem : (due : FormatLine) → due ≡ EndOfText → true ≡ is_end (shape_of due)
 end_line_lem due e = rw e
-
--- the numbers of all lines but the end
-abbrev others : List ℕ
-others = 0 ∷ 1 ∷ 2 ∷ 3 ∷ 4 ∷ 5 ∷ 6 ∷ 7 ∷ 8 ∷ 9 ∷ 10 ∷ 11 ∷ 12 ∷ 13 ∷ 14 ∷ 15 ∷ 16 ∷ 17 ∷ 18 ∷ 19 ∷ 20 ∷ 21 ∷ 22 ∷ 23 ∷ 24 ∷ 25 ∷ 26 ∷ 27 ∷ 28 ∷ 29 ∷ 30 ∷ 31 ∷ 32 ∷ 33 ∷ 34 ∷ []
-
-pub other_line : (due : FormatLine) → OneOf others (tag_of the_type due) → false ≡ is_end (shape_of due)
-other_line BeginVersion h = refl
-other_line Version h = refl
-other_line EndVersion h = refl
-other_line BeginMetric h = refl
-other_line Metric h = refl
-other_line EndMetric h = refl
-other_line VariableCount h = refl
-other_line BeginVariable h = refl
-other_line VariableName h = refl
-other_line AxiomLayer h = refl
-other_line Range h = refl
-other_line AtomName h = refl
-other_line EndVariable h = refl
-other_line MutexGroupCount h = refl
-other_line BeginMutexGroup h = refl
-other_line MutexFactCount h = refl
-other_line MutexFact h = refl
-other_line EndMutexGroup h = refl
-other_line BeginState h = refl
-other_line StateValue h = refl
-other_line EndState h = refl
-other_line BeginGoal h = refl
-other_line GoalCount h = refl
-other_line GoalFact h = refl
-other_line EndGoal h = refl
-other_line OperatorCount h = refl
-other_line BeginOperator h = refl
-other_line OperatorName h = refl
-other_line PrevailCount h = refl
-other_line PrevailCondition h = refl
-other_line EffectCount h = refl
-other_line Effect h = refl
-other_line Cost h = refl
-other_line EndOperator h = refl
-other_line AxiomCount h = refl
-other_line EndOfText h = absurd (miss others 35 tt h)
-
-module _ (p : Position) (lines : ℕ) (due : FormatLine) (d : due ≡ line_due p) (ends : Bool) (e : ends ≡ is_end (shape_of due)) where
-  pub at_end : ends ≡ true → Accepted ≡ stops_early p lines
-  unfolding stops_early
-  at_end t = sym (judge_passed (demand (is_end (shape_of (line_due p))) (AgainstFormat (one_more lines))) [] (ap (λ d. is_end (shape_of d)) (sym d) ∙ sym e ∙ t) ∙ judge_nil)
-
-  pub too_early : (at : ℕ) → ends ≡ false → at ≡ one_more lines → Refused (AgainstFormat at) ≡ stops_early p lines
-  unfolding stops_early
-  too_early at t a =
-      ap (λ at. Refused (AgainstFormat at)) a
-      ∙ sym (judge_refused (demand (is_end (shape_of (line_due p))) (AgainstFormat (one_more lines))) [] (ap (λ d. is_end (shape_of d)) (sym d) ∙ sym e ∙ t))
-
--- ---- room
-
-pub room_enough : (needed room : ℕ) → needed ≤ room → Accepted ≡ judge (room_rule needed room)
-room_enough needed room h = sym (judge_passed (demand (leb needed room) Room) [] (le-leb needed room h) ∙ judge_nil)
-
-pub room_short : (needed room : ℕ) → room < needed → Refused Room ≡ judge (room_rule needed room)
-room_short needed room h = sym (judge_refused (demand (leb needed room) Room) [] (lt-leb needed room h))
 
 -- ---- what is kept
 
@@ -133,12 +62,6 @@ module _ (k : Kept) (s : Sound k) (sizes start goal actions : List ℕ) (l : Len
         actions_part,
       )
 
-pub rules_judged : (k : Kept) (sizes start goal actions : List ℕ) (v : Verdict)
-    → v ≡ judge (bodies_rules (take k.sizes sizes) (take k.starts start) (take (pair_bytes * k.goals) goal) (take k.bytes actions))
-    → v ≡ rules_kept k (memory sizes start goal actions)
-unfolding rules_kept
-rules_judged k sizes start goal actions v e = e
-
 -- ---- the verdict
 
 module _ (k : Kept) (m : Memory) (room : ℕ) where
@@ -160,11 +83,6 @@ verdict_within k sizes start goal actions room r v w needed s l e f n g h =
     ∙ ap (in_turn (rules_kept k (memory sizes start goal actions))) (g ∙ ap (λ n. judge (room_rule n room)) (n ∙ sym (file_length_lem k s sizes start goal actions l)))
     ∙ ap (λ x. verdict_kept x k (memory sizes start goal actions) room) (sym e)
 
-pub at_end_judged : (i : Intake) (m : Memory) (room : ℕ) (r early kept both : Verdict) → early ≡ stops_early i.position i.lines
-    → kept ≡ verdict_kept i.kept.excess i.kept m room → both ≡ in_turn early kept → r ≡ in_turn i.verdict both → r ≡ verdict_at_end i m room
-unfolding verdict_at_end
-at_end_judged i m room r early kept both e f g h = h ∙ ap (in_turn i.verdict) (g ∙ ap (λ a. in_turn a kept) e ∙ ap (in_turn (stops_early i.position i.lines)) f)
-
 -- ---- the file
 
 room_holds : (needed room : ℕ) → judge (room_rule needed room) ≡ Accepted → needed ≤ room
@@ -181,11 +99,11 @@ file_holds i m room v e a =
     kept_holds i.kept.excess i.kept m room
     (in_turn-right (stops_early i.position i.lines) _ (in_turn-right i.verdict _ (sym e ∙ a)))
 
-module _ (k : Kept) (sizes start goal actions : List ℕ) where
-  pub file_within : Sound k → Lent (memory sizes start goal actions)
-      → file_length (length (take k.sizes sizes)) (length (take k.starts start)) (length (take (pair_bytes * k.goals) goal)) (length (take k.bytes actions)) ≤ max_file
+module _ (k : Kept) (sizes start goal actions : List ℕ) (b : Memory) (e : b ≡ kept_of k (memory sizes start goal actions)) where
+  pub file_within : Sound k → Lent (memory sizes start goal actions) → file_length (length b.sizes) (length b.start) (length b.goal) (length b.actions) ≤ max_file
   file_within s l =
-      omega (
+      rw e
+      (omega (
         arith,
         sizes_part k s sizes start goal actions l,
         start_part k s sizes start goal actions l,
@@ -196,71 +114,19 @@ module _ (k : Kept) (sizes start goal actions : List ℕ) where
         s.goals,
         s.actions,
         s.bytes,
-      )
+      ))
 
   pub file_room : (room : ℕ) → length (file_kept k (memory sizes start goal actions)) ≤ room
-      → file_length (length (take k.sizes sizes)) (length (take k.starts start)) (length (take (pair_bytes * k.goals) goal)) (length (take k.bytes actions)) ≤ room
+      → file_length (length b.sizes) (length b.start) (length b.goal) (length b.actions) ≤ room
   unfolding file_kept
-  file_room room h = omega (arith, h, laid_length (take k.sizes sizes) (take k.starts start) (take (pair_bytes * k.goals) goal) (take k.bytes actions))
+  file_room room h =
+      rw e (omega (arith, h, laid_length (take k.sizes sizes) (take k.starts start) (take (pair_bytes * k.goals) goal) (take k.bytes actions)))
 
-  pub file_long : (end : ℕ) → end ≡ length (laid_out (take k.sizes sizes) (take k.starts start) (take (pair_bytes * k.goals) goal) (take k.bytes actions))
-      → end ≡ length (file_kept k (memory sizes start goal actions))
+  pub file_long : (end : ℕ) → end ≡ length (laid_out b.sizes b.start b.goal b.actions) → end ≡ length (file_kept k (memory sizes start goal actions))
   unfolding file_kept
-  file_long end e = e
+  file_long end f = f ∙ ap (λ b. length (laid_out b.sizes b.start b.goal b.actions)) e
 
-  pub file_left : (room after : List ℕ) → after ≡ over room 0 (laid_out (take k.sizes sizes) (take k.starts start) (take (pair_bytes * k.goals) goal) (take k.bytes actions))
+  pub file_left : (room after : List ℕ) → after ≡ over room 0 (laid_out b.sizes b.start b.goal b.actions)
       → after ≡ lent_after Accepted (file_kept k (memory sizes start goal actions)) room
   unfolding file_kept
-  file_left room after e = e ∙ written_front room _
-
--- ---- the answer
-
-module _ (i : Intake) (m : Memory) (room : List ℕ) (v : Verdict) (e : v ≡ verdict_at_end i m (length room)) where
-  pub ends_refused : (why : Refusal) → v ≡ Refused why → EndsWith i m room (Translation.Refused why) room
-  ends_refused why w =
-      record {
-        answered = ap (λ v. translation v (length (file_kept i.kept m))) (sym w ∙ e);
-        leaves = ap (λ v. lent_after v (file_kept i.kept m) room) (sym w ∙ e);
-      }
-
-  pub ends_written : (n : ℕ) (after : List ℕ) → v ≡ Accepted → n ≡ length (file_kept i.kept m) → after ≡ lent_after Accepted (file_kept i.kept m) room
-      → EndsWith i m room (Translation.Written n) after
-  ends_written n after w l a =
-      record {
-        answered = ap Translation.Written l ∙ ap (λ v. translation v (length (file_kept i.kept m))) (sym w ∙ e);
-        leaves = a ∙ ap (λ v. lent_after v (file_kept i.kept m) room) (sym w ∙ e);
-      }
-
--- ---- the last line, then the answer
-
-pub still_sound : (i last : Intake) → last.kept ≡ i.kept → Sound i.kept → Sound last.kept
-still_sound i last e s = rw e s
-
-pub reading_ends : (i last : Intake) (m : Memory) (line room : List ℕ) (answer : Translation) (after : List ℕ)
-    → ((m : Memory) → taken last m line ≡ last_line (taken i m line)) → EndsWith last m room answer after
-    → ended answer after ≡ end_with (last_line (taken i m line)) room
-unfolding end_with end_verdict
-reading_ends i last m line room answer after t w =
-    rw (← t m)
-    (ap (λ a. ended a after) w.answered ∙ ap (ended (translation (verdict_at_end last m (length room)) (length (file_kept last.kept m)))) w.leaves)
-
--- ---- the call
-
-pub has_room-is : (i : Intake) (m : Memory) (line : List ℕ) (b : Bool)
-    → b ≡ room_for i.kept i.held (length m.sizes) (length m.start) (length m.goal) (length m.actions) (length line) → b ≡ has_room (taken i m line)
-unfolding has_room
-has_room-is i m line b e = e
-
-module _ (i : Intake) (m : Memory) (line : List ℕ) (b : Bool) (has : b ≡ has_room (taken i m line)) where
-  pub has_ready : not b ≡ false → Ready (taken i m line)
-  unfolding has_room
-  has_ready h = room_ready i m line b has h
-
-  pub finish_short : (room : List ℕ) → not b ≡ true → ended (Translation.Refused Room) room ≡ finish_call (taken i m line) room
-  unfolding finish_call
-  finish_short room h = rw (sym has ∙ not_true b h)
-
-  pub finish_ends : (room : List ℕ) (answer : Translation) (after : List ℕ) → not b ≡ false → ended answer after ≡ end_with (last_line (taken i m line)) room
-      → ended answer after ≡ finish_call (taken i m line) room
-  unfolding finish_call
-  finish_ends room answer after h e = rw (sym has ∙ not_false b h) e
+  file_left room after f = f ∙ ap (λ b. over room 0 (laid_out b.sizes b.start b.goal b.actions)) e ∙ written_front room _

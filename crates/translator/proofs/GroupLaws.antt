@@ -5,7 +5,7 @@ use mathlib.Core.Path.{◌≡◌, refl, sym, ap, ap₂, ◌∙◌}
 use mathlib.Core.Bool.{Bool, true, false, not, ◌&&◌}
 use mathlib.Core.List.{List}
 use native.Mathlib.Omega.{arith}
-use borrow.Author.Tests.{ne_eqb, ltb-true, lt-ltb, le-ltb}
+use borrow.Author.Tests.{ne_eqb, ltb-true, le-ltb}
 use lib.Dec.{ltb}
 use lib.ListN.{length, get_or, take, drop}
 use Rattle.rules.specs.declared.FormatLine.{FormatLine}
@@ -15,10 +15,9 @@ use Rattle.rules.specs.declared.Verdict.TheVariants.{Accepted}
 use Rattle.rules.proofs.Bools.{not_true, not_false, and_left, and_right}
 use Rattle.textlines.specs.Says.{is_fact}
 use Rattle.textlines.proofs.ShapeLaws.{group_fact}
-use Rattle.translator.specs.Position.{line_due, to, repeated, moved_on}
-use Rattle.translator.specs.Intake.{Memory, keep_line, one_more, head_room, taken, end_line, take_all, SameRest, HeldUpTo, HeldLine}
+use Rattle.translator.specs.Position.{line_due, to, moved_on}
+use Rattle.translator.specs.Intake.{Memory, keep_line, one_more, head_room, taken, end_line, take_all, SameRest, HeldUpTo}
 use Rattle.translator.specs.Facts.{facts, among_facts, one_read, SameFacts, FactsRead, fact_ends, AllRead, FactsTaken}
-use Rattle.translator.specs.declared.position.Position.{Position}
 use Rattle.translator.specs.declared.intake.Intake.{Intake}
 use Rattle.translator.specs.declared.facts.Facts.{Facts}
 use Rattle.translator.proofs.InPieces.{byte_ends}
@@ -31,10 +30,6 @@ module _ (bytes : List ℕ) (at held : ℕ) (line : List ℕ) where
   unfolding fact_ends
   no_end h = ap (λ b. b && is_fact (take held line)) (sym (le-ltb at (length bytes) h))
 
-  pub ends_as : (r : Bool) → at < length bytes → r ≡ is_fact (take held line) → r ≡ fact_ends bytes at held line
-  unfolding fact_ends
-  ends_as r h e = e ∙ ap (λ b. b && is_fact (take held line)) (sym (lt-ltb at (length bytes) h))
-
   ends_within : fact_ends bytes at held line ≡ true → at < length bytes
   unfolding fact_ends
   ends_within t = ltb-true at (length bytes) (and_left (ltb at (length bytes)) (is_fact (take held line)) t)
@@ -42,11 +37,6 @@ module _ (bytes : List ℕ) (at held : ℕ) (line : List ℕ) where
   ends_fact : fact_ends bytes at held line ≡ true → is_fact (take held line) ≡ true
   unfolding fact_ends
   ends_fact t = and_right (ltb at (length bytes)) (is_fact (take held line)) t
-
-pub one_read-is : (f : Facts) (next lines : ℕ) → lines ≡ one_more f.lines
-    → ◌≡◌ {A = Facts} (record { at = next; held = 0; left = f.left - 1; lines = lines }) (one_read next f)
-unfolding one_read
-one_read-is f next lines e = rw e
 
 fact_ended : (f : Facts) (next : ℕ) (i : Intake) (m : Memory) (line : List ℕ) → 0 < f.left → is_fact (take f.held line) ≡ true
     → end_line (taken (among_facts f i) m line) ≡ taken (among_facts (one_read next f) i) m line
@@ -59,9 +49,9 @@ fact_ended f next i m line l t =
 abbrev held_to : (end held : ℕ) → Facts → Facts
 held_to end held f = facts end held f.left f.lines
 
-pub one_less : (f r : Facts) (next end h : ℕ) → 0 < f.left → r ≡ one_read next (held_to end h f) → r.left < f.left
+pub one_less : (f r : Facts) (next : ℕ) → r ≡ one_read next f → r.left ≡ f.left - 1
 unfolding one_read
-one_less f r next end h p e = omega (arith, ap (λ r. r.left) e)
+one_less f r next e = ap (λ r. r.left) e
 
 module _ (bytes : List ℕ) (first : Facts) (line : List ℕ) where
   pub facts_none : first.at ≤ length bytes → first.held ≤ head_room → FactsRead bytes first line first line
@@ -114,10 +104,6 @@ module _ (bytes : List ℕ) (first : Facts) (line : List ℕ) where
 abbrev as_it_is : Intake → FormatLine → Verdict → Intake
 as_it_is i due verdict = record { position = to due i.position; lines = i.lines; verdict = verdict; kept = i.kept; held = i.held }
 
-pub among_is : (f : Facts) (i : Intake) (p : Position) → p ≡ repeated MutexFact f.left i.position
-    → ◌≡◌ {A = Intake} (record { position = p; lines = f.lines; verdict = Accepted; kept = i.kept; held = f.held }) (among_facts f i)
-among_is f i p e = rw e
-
 module _ (i : Intake) (line bytes : List ℕ) (at : ℕ) where
   stands : i.verdict ≡ Accepted → i.position.line ≡ MutexFact → among_facts (facts at i.held i.position.inner i.lines) i ≡ i
   stands v d = ap₂ (as_it_is i) (sym d) (sym v)
@@ -133,16 +119,4 @@ module _ (i : Intake) (line bytes : List ℕ) (at : ℕ) where
         kept = ap (λ b. b.kept) e;
         over = rw e r.over;
         rest = λ m. ap (λ b. take_all (taken b m l) (drop f.at bytes)) e ∙ r.read.rest i m ∙ ap (λ b. take_all (taken b m line) (drop at bytes)) (stands v d);
-      }
-
-  pub line_behind : (mid : Intake) (n : ℕ) (l : List ℕ) → FactsTaken i line bytes at mid n l → (then : Intake) (end : ℕ) (l' : List ℕ)
-      → HeldLine mid l bytes n then end l' → HeldLine i line bytes at then end l'
-  line_behind mid n l f then end l' h =
-      record {
-        from = omega (arith, f.from, h.from);
-        within = h.within;
-        ends = h.ends;
-        fits = h.fits;
-        kept = h.kept ∙ f.kept;
-        rest = λ m. h.rest m ∙ f.rest m;
       }

@@ -14,13 +14,14 @@ use Rattle.rules.specs.Text.{lf}
 use Rattle.rules.specs.Format.{Shape, line_rules}
 use Rattle.rules.specs.Translation.{TextReading, text_begun, shape_due, line_read, read_text_line, read_further, read_text_lines, read_text}
 use Rattle.rules.specs.declared.FormatLine.{FormatLine}
+use Rattle.std.specs.Prelude.{Result, Ok, Err}
 use Rattle.rules.specs.declared.Refusal.{Refusal}
+use Rattle.textlines.specs.declared.Numbers.{Numbers}
 use Rattle.rules.specs.declared.Verdict.{Verdict}
 use Rattle.rules.specs.declared.Verdict.TheVariants.{Accepted, Refused}
 use Rattle.rules.proofs.Bools.{either, below_or}
 use Rattle.rules.proofs.Cut.{lines_ahead, ahead_first, ahead_none, ahead_last, ahead_lf, ahead_byte, lines_most, Holds, holds_none, holds_more, holds_full}
 use Rattle.textlines.specs.Says.{says_as}
-use Rattle.textlines.specs.declared.Said.{Said}
 use Rattle.translator.specs.Intake.{Memory, most_lines, one_more, Taken, taken, after_line, end_line, head_room, with_held, take_byte, take_all, begun}
 use Rattle.translator.specs.Position.{line_due}
 use Rattle.translator.specs.declared.intake.Intake.{Intake}
@@ -99,10 +100,10 @@ module _ (t : Taken) (b : ℕ) (v : t.intake.verdict ≡ Accepted) where
       ∙ chosen-false (ltb t.intake.held head_room) _ _ (le-ltb t.intake.held head_room l)
 
 -- what is held of the next line behind a line: nothing
-holds_after : (said : Said) (due : FormatLine) (i : Intake) (m : Memory) (line : List ℕ) → head_room ≤ length line
+holds_after : (said : Result Numbers Refusal) (due : FormatLine) (i : Intake) (m : Memory) (line : List ℕ) → head_room ≤ length line
     → Holds head_room (after_line said due i m line).intake.held (after_line said due i m line).line []
-holds_after (Said.Says said) due i m line h = holds_none head_room line h
-holds_after (Said.Refused why) due i m line h = holds_none head_room line h
+holds_after (Ok said) due i m line h = holds_none head_room line h
+holds_after (Err why) due i m line h = holds_none head_room line h
 
 holds_ended : (t : Taken) → t.intake.verdict ≡ Accepted → head_room ≤ length t.line
     → Holds head_room (end_line t).intake.held (end_line t).line []

@@ -1,6 +1,5 @@
 -- What is proved of the reader of the translator's text.
 pub mod KeepLaws
-pub mod LineLaws
 pub mod ByteLaws
 pub mod GroupLaws
 pub mod RoomLaws

@@ -1,41 +1,18 @@
 -- Room: the tests together are the definition's, and what they say of a reading.
 -- Assumes nothing.
-use Prim.Native.Nat.{ℕ, ◌*◌, ◌≤◌, ◌<◌}
-use mathlib.Core.Path.{◌≡◌, refl, sym, ◌∙◌}
+use Prim.Native.Nat.{ℕ, ◌*◌, ◌≤◌}
+use mathlib.Core.Path.{◌≡◌, sym, ◌∙◌}
 use mathlib.Core.Bool.{Bool, true, false, not, ◌&&◌}
 use mathlib.Core.List.{List}
-use borrow.Author.Tests.{leb-true, le-leb, lt-leb}
+use borrow.Author.Tests.{leb-true}
 use lib.Dec.{leb}
 use lib.ListN.{length}
 use Rattle.rules.specs.Limits.{max_variables, max_goals, max_actions, max_pairs, max_action}
 use Rattle.rules.proofs.Bools.{and_left, and_right, not_false}
 use Rattle.bodies.specs.declared.Kept.{Kept}
 use Rattle.bodies.specs.Keeping.{Sound, goal_room, actions_room}
-use Rattle.translator.specs.Intake.{Memory, Lent, head_room, taken, Ready, actions_fit, counts_fit, lent_fits, room_for}
+use Rattle.translator.specs.Intake.{Memory, Lent, head_room, taken, Ready, actions_fit, counts_fit, lent_fits, has_room}
 use Rattle.translator.specs.declared.intake.Intake.{Intake}
-
-pub many_actions : (actions bytes : ℕ) → max_actions < actions → false ≡ actions_fit actions bytes
-unfolding actions_fit
-many_actions actions bytes h = rw (lt-leb actions max_actions h)
-
-pub few_actions : (actions bytes : ℕ) → actions ≤ max_actions → leb bytes (max_action * actions) ≡ actions_fit actions bytes
-unfolding actions_fit
-few_actions actions bytes h = rw (le-leb actions max_actions h)
-
-pub counts_are : (k : Kept) (a : Bool) → a ≡ actions_fit k.actions k.bytes
-    → (leb k.sizes max_variables && leb k.starts max_variables && leb k.goals max_goals && a && leb k.preconditions max_pairs && leb k.effects max_pairs) ≡ counts_fit k
-unfolding counts_fit
-counts_are k a e = rw e
-
-pub lent_is : (sizes start goal actions line : ℕ)
-    → (leb max_variables sizes && leb max_variables start && leb goal_room goal && leb actions_room actions && leb head_room line) ≡ lent_fits sizes start goal actions line
-unfolding lent_fits
-lent_is sizes start goal actions line = refl
-
-pub room_is : (k : Kept) (held sizes start goal actions line : ℕ) (a b : Bool) → a ≡ counts_fit k → b ≡ lent_fits sizes start goal actions line
-    → (a && leb held head_room && b) ≡ room_for k held sizes start goal actions line
-unfolding room_for
-room_is k held sizes start goal actions line a b e f = rw (e, f)
 
 -- ---- what the tests say
 
@@ -64,7 +41,7 @@ counts_sound k h =
       effects = leb-true k.effects max_pairs (and_right (s && t && g && (a && b) && p) e h);
     }
 
-lent_enough : (m : Memory) (line : ℕ) → lent_fits (length m.sizes) (length m.start) (length m.goal) (length m.actions) line ≡ true
+lent_enough : (m : Memory) (line : ℕ) → lent_fits m line ≡ true
     → Lent m × (head_room ≤ line)
 unfolding lent_fits
 lent_enough m line h =
@@ -86,13 +63,13 @@ lent_enough m line h =
     )
 
 module _ (i : Intake) (m : Memory) (line : List ℕ) where
-  pub room_ready : (r : Bool) → r ≡ room_for i.kept i.held (length m.sizes) (length m.start) (length m.goal) (length m.actions) (length line)
+  pub room_ready : (r : Bool) → r ≡ has_room (taken i m line)
       → not r ≡ false → Ready (taken i m line)
-  unfolding room_for
+  unfolding has_room
   room_ready r e k =
       let c : Bool = counts_fit i.kept in
       let h : Bool = leb i.held head_room in
-      let l : Bool = lent_fits (length m.sizes) (length m.start) (length m.goal) (length m.actions) (length line) in
+      let l : Bool = lent_fits m (length line) in
       let all : (c && h && l) ≡ true = sym e ∙ not_false r k in
       let lent : Lent m × (head_room ≤ length line) = lent_enough m (length line) (and_right (c && h) l all) in
       record {

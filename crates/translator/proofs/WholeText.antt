@@ -21,6 +21,7 @@ use Rattle.rules.specs.Format.{Stated, nothing_stated, no_action, shape_of, line
 use Rattle.rules.specs.Translation.{TextReading, text_begun, shape_due, read_text_lines, read_text, is_end, end_of_reading, text_verdict, text_task, stated_verdict, translation_verdict, translation_after}
 use Rattle.rules.specs.declared.FormatLine.{FormatLine}
 use Rattle.rules.specs.declared.FormatLine.TheVariants.{BeginVersion, Version, EndVersion, BeginMetric, Metric, EndMetric, VariableCount, BeginVariable, VariableName, AxiomLayer, Range, AtomName, EndVariable, MutexGroupCount, BeginMutexGroup, MutexFactCount, MutexFact, EndMutexGroup, BeginState, StateValue, EndState, BeginGoal, GoalCount, GoalFact, EndGoal, OperatorCount, BeginOperator, OperatorName, PrevailCount, PrevailCondition, EffectCount, Effect, Cost, EndOperator, AxiomCount, EndOfText}
+use Rattle.std.specs.Prelude.{Result, Ok, Err}
 use Rattle.rules.specs.declared.Refusal.{Refusal}
 use Rattle.rules.specs.declared.Refusal.TheVariants.{ActionAtFault, AgainstFormat}
 use Rattle.rules.specs.declared.Verdict.{Verdict}
@@ -31,7 +32,6 @@ use Rattle.rules.proofs.Cut.{lines_most, holds_none}
 use Rattle.writer.specs.Laid.{laid_out}
 use Rattle.textlines.specs.Says.{numbers_in, said_by, shape_says, says_as}
 use Rattle.textlines.specs.declared.Numbers.{Numbers}
-use Rattle.textlines.specs.declared.Said.{Said}
 use Rattle.bodies.specs.Keeping.{nothing_kept, goal_room, actions_room, Sound}
 use Rattle.bodies.specs.declared.Kept.{Kept}
 use Rattle.bodies.specs.declared.Excess.{Excess}
@@ -39,7 +39,7 @@ use Rattle.bodies.specs.declared.Excess.TheVariants.{Within, Lengths, Actions}
 use Rattle.bodies.proofs.States.{before_nothing, states_begun}
 use Rattle.bodies.proofs.Verdicts.{task_verdict, verdict_within, bodies_within, verdict_lengths, verdict_actions}
 use Rattle.translator.specs.Position.{first_position, unless_over, line_due, moved_on}
-use Rattle.translator.specs.Intake.{Memory, KeptBodies, kept_in, keep_line, most_lines, one_more, Taken, taken, read_on, unless_refused, after_line, end_line, head_room, take_byte, take_all, actions_fit, counts_fit, lent_fits, room_for, has_room, Lent, Ready, take_call, begun, last_said, last_line, rules_kept, file_kept, verdict_kept, stops_early, verdict_at_end, end_verdict, translation, Ended, ended, end_with, finish_call}
+use Rattle.translator.specs.Intake.{Memory, KeptBodies, kept_in, keep_line, most_lines, one_more, Taken, taken, read_on, unless_refused, after_line, end_line, head_room, take_byte, take_all, actions_fit, counts_fit, lent_fits, has_room, Lent, Ready, take_call, begun, last_said, last_line, rules_kept, file_kept, verdict_kept, stops_early, verdict_at_end, end_verdict, translation, Ended, ended, end_with, finish_call}
 use Rattle.translator.specs.declared.position.Position.{Position}
 use Rattle.translator.specs.declared.intake.Intake.{Intake}
 use Rattle.translator.specs.declared.intake.Translation.{Translation}
@@ -220,20 +220,20 @@ stops_early_lem : (due : FormatLine) (said : Numbers) (i : Intake) (k : Kept) (m
 unfolding end_with end_verdict verdict_at_end stops_early judge
 stops_early_lem due said i k m line room f = rw f refl
 
-said_alike : (s : Said) (due : FormatLine) (i : Intake) (m : Memory) (line room : List ℕ)
+said_alike : (s : Result Numbers Refusal) (due : FormatLine) (i : Intake) (m : Memory) (line room : List ℕ)
     → end_with (taken (last_said s due i) m line) room ≡ end_with (after_line s due i m line) room
-said_alike (Said.Says said) due i m line room =
+said_alike (Ok said) due i m line room =
     ⊎_elim (λ e. ap (λ k. end_with (taken (read_on due said i k.kept) k.memory line) room) (sym e))
     (λ f. stops_early_lem due said i i.kept m line room f ∙ sym (stops_early_lem due said i _ _ line room f))
     (nothing_or_on due said (kept_in i.kept m) i.position)
-said_alike (Said.Refused why) due i m line room = refl
+said_alike (Err why) due i m line room = refl
 
 last_alike : (t : Taken) (room : List ℕ) → end_with (last_line t) room ≡ end_with (last_kept t) room
 unfolding last_line last_kept end_line
 last_alike t room =
     let i : Intake = t.intake in
     let due : FormatLine = line_due i.position in
-    let said : Said = says_as due (one_more i.lines) (take i.held t.line) in
+    let said : Result Numbers Refusal = says_as due (one_more i.lines) (take i.held t.line) in
     let judged : Taken = taken (last_said said due i) t.memory t.line in
     let kept : Taken = after_line said due i t.memory t.line in
     ⊎_elim (λ e. rw e refl)
@@ -297,7 +297,7 @@ going_all t [] g = g
 going_all t (b ∷ bytes) g = going_all (take_byte t b) bytes (going_byte t b g)
 
 ready_room : (t : Taken) → Ready t → has_room t ≡ true
-unfolding has_room room_for counts_fit actions_fit lent_fits
+unfolding has_room counts_fit actions_fit lent_fits
 ready_room t r =
     let k : Kept = t.intake.kept in
     let o : Sound k = r.kept in

@@ -1,6 +1,6 @@
 -- A text taken in: a line at a time, and in pieces of any length. The first bytes of a line are held, which decide it.
 -- Assumes nothing.
-use Rattle.std.specs.Prelude.{ℕ, zero, suc, ◌+◌, ◌*◌, ◌-◌, ◌^◌, ◌≤◌, ◌<◌, min, ◌≡◌, Bool, true, not, cond, ◌&&◌, leb, ltb, eqb, length, get_or, take, drop, set}
+use Rattle.std.specs.Prelude.{ℕ, zero, suc, ◌+◌, ◌*◌, ◌-◌, ◌^◌, ◌≤◌, ◌<◌, min, ◌≡◌, Bool, true, not, cond, ◌&&◌, leb, ltb, eqb, length, get_or, take, drop, set, Option, None, Some, Result, Ok, Err}
 use mathlib.Core.List.{List, [], ◌∷◌, foldl}
 use Rattle.rules.specs.Limits.{max_variables, max_goals, max_actions, max_pairs, max_action, pair_bytes}
 use Rattle.rules.specs.Answers.{judge, demand, in_turn}
@@ -18,14 +18,14 @@ use Rattle.rules.specs.declared.FormatLine.TheVariants.{BeginVersion, Version, E
 use Rattle.reader.specs.Bodies.{bodies_rules}
 use Rattle.writer.specs.Laid.{laid_out}
 use Rattle.textlines.specs.Says.{deciding, says_as}
-use Rattle.textlines.specs.declared.OldValue.{OldValue}
 use Rattle.textlines.specs.declared.Numbers.{Numbers}
-use Rattle.textlines.specs.declared.Said.{Said}
 use Rattle.bodies.specs.Keeping.{Keeping, keeps, nothing_kept, Sound, goal_room, actions_room, keep_size, keep_start, keep_goal, keep_precondition, keep_effect, keep_action}
 use Rattle.bodies.specs.declared.Kept.{Kept}
 use Rattle.bodies.specs.declared.Excess.{Excess}
 use Rattle.bodies.specs.declared.Excess.TheVariants.{Within, Lengths, Actions}
 use Rattle.translator.specs.Position.{first_position, line_due, moved_on}
+use Rattle.translator.specs.declared.parts.Bodies.{Bodies}
+use Rattle.translator.specs.declared.parts.Parts.{Parts}
 use Rattle.translator.specs.declared.position.Position.{Position}
 use Rattle.translator.specs.declared.intake.Intake.{Intake}
 use Rattle.translator.specs.declared.intake.Translation.{Translation}
@@ -40,6 +40,25 @@ pub record Memory : Type 0 where
 
 abbrev pub memory : (sizes start goal actions : List ℕ) → Memory
 memory sizes start goal actions = record { sizes = sizes; start = start; goal = goal; actions = actions }
+
+-- what the parts that are lent to be read have
+abbrev pub read_from : Bodies → Memory
+read_from b = memory b.sizes.now b.start.now b.goal.now b.actions.now
+
+-- what the parts that are lent to be written have
+abbrev pub lent_in : Parts → Memory
+lent_in p = memory p.sizes.now p.start.now p.goal.now p.actions.now
+
+-- the same parts of memory still, each as long as it was
+pub record SameParts (before after : Parts) : Type 0 where
+  pub sizes : after.sizes.ghost_name ≡ before.sizes.ghost_name
+  pub start : after.start.ghost_name ≡ before.start.ghost_name
+  pub goal : after.goal.ghost_name ≡ before.goal.ghost_name
+  pub actions : after.actions.ghost_name ≡ before.actions.ghost_name
+  pub sizes_long : length after.sizes.now ≡ length before.sizes.now
+  pub start_long : length after.start.now ≡ length before.start.now
+  pub goal_long : length after.goal.now ≡ length before.goal.now
+  pub actions_long : length after.actions.now ≡ length before.actions.now
 
 -- room for each body at its limit
 pub record Lent (m : Memory) : Type 0 where
@@ -82,9 +101,9 @@ abbrev pub pair_of : (variable value : ℕ) → Pair
 pair_of variable value = record { variable = variable; value = value }
 
 -- an old value, unless it is any, is a precondition
-abbrev pub keep_old : ℕ → OldValue → Keeping → Keeping
-keep_old variable OldValue.Any k = k
-keep_old variable (OldValue.Is value) k = keep_precondition (pair_of variable value) k
+abbrev pub keep_old : ℕ → Option ℕ → Keeping → Keeping
+keep_old variable None k = k
+keep_old variable (Some value) k = keep_precondition (pair_of variable value) k
 
 abbrev pub effect_kept : Numbers → Keeping → Keeping
 effect_kept said k = keep_effect (pair_of said.first said.second) (keep_old said.first said.old k)
@@ -161,11 +180,11 @@ read_on due said i kept =
 abbrev pub stopped_for : Refusal → Intake → Intake
 stopped_for why i = record { position = i.position; lines = i.lines; verdict = Refused why; kept = i.kept; held = 0 }
 
-abbrev pub after_line : Said → (due : FormatLine) → Intake → Memory → List ℕ → Taken
-after_line (Said.Says said) due i m line =
+abbrev pub after_line : Result Numbers Refusal → (due : FormatLine) → Intake → Memory → List ℕ → Taken
+after_line (Ok said) due i m line =
     let k : KeptBodies = keep_line due said (kept_in i.kept m) in
     taken (read_on due said i k.kept) k.memory line
-after_line (Said.Refused why) due i m line = taken (stopped_for why i) m line
+after_line (Err why) due i m line = taken (stopped_for why i) m line
 
 -- what a reading needs: counts within their limits, and room
 pub record Ready (t : Taken) : Type 0 where
@@ -262,17 +281,13 @@ counts_fit k =
     leb k.sizes max_variables && leb k.starts max_variables && leb k.goals max_goals && actions_fit k.actions k.bytes
     && leb k.preconditions max_pairs && leb k.effects max_pairs
 
-unfoldable pub lent_fits : (sizes start goal actions line : ℕ) → Bool
-lent_fits sizes start goal actions line =
-    leb max_variables sizes && leb max_variables start && leb goal_room goal && leb actions_room actions && leb head_room line
-
-unfoldable pub room_for : Kept → (held sizes start goal actions line : ℕ) → Bool
-room_for k held sizes start goal actions line = counts_fit k && leb held head_room && lent_fits sizes start goal actions line
+unfoldable pub lent_fits : Memory → (line : ℕ) → Bool
+lent_fits m line =
+    leb max_variables (length m.sizes) && leb max_variables (length m.start) && leb goal_room (length m.goal) && leb actions_room (length m.actions)
+    && leb head_room line
 
 unfoldable pub has_room : Taken → Bool
-has_room t =
-    room_for t.intake.kept t.intake.held (length t.memory.sizes) (length t.memory.start) (length t.memory.goal) (length t.memory.actions)
-    (length t.line)
+has_room t = counts_fit t.intake.kept && leb t.intake.held head_room && lent_fits t.memory (length t.line)
 
 abbrev pub refused_for : Verdict → Intake → Intake
 refused_for verdict i = record { position = i.position; lines = i.lines; verdict = verdict; kept = i.kept; held = i.held }
@@ -286,9 +301,9 @@ begun = record { position = first_position; lines = 0; verdict = Accepted; kept 
 -- ---- the end: what is lent for the reading stays as it is
 
 -- a last line is judged and not kept: one that adds something ends no text
-abbrev pub last_said : Said → (due : FormatLine) → Intake → Intake
-last_said (Said.Says said) due i = read_on due said i i.kept
-last_said (Said.Refused why) due i = stopped_for why i
+abbrev pub last_said : Result Numbers Refusal → (due : FormatLine) → Intake → Intake
+last_said (Ok said) due i = read_on due said i i.kept
+last_said (Err why) due i = stopped_for why i
 
 -- what is held of a last line without LF is a line
 unfoldable pub last_line : Taken → Taken
@@ -298,12 +313,15 @@ last_line t =
     (unless_refused i.verdict
     (taken (last_said (says_as (line_due i.position) (one_more i.lines) (take i.held t.line)) (line_due i.position) i) t.memory t.line) t)
 
+-- as much of each body as is kept
+abbrev pub kept_of : Kept → Memory → Memory
+kept_of k m = memory (take k.sizes m.sizes) (take k.starts m.start) (take (pair_bytes * k.goals) m.goal) (take k.bytes m.actions)
+
 unfoldable pub rules_kept : Kept → Memory → Verdict
-rules_kept k m =
-    judge (bodies_rules (take k.sizes m.sizes) (take k.starts m.start) (take (pair_bytes * k.goals) m.goal) (take k.bytes m.actions))
+rules_kept k m = let b : Memory = kept_of k m in judge (bodies_rules b.sizes b.start b.goal b.actions)
 
 unfoldable pub file_kept : Kept → Memory → List ℕ
-file_kept k m = laid_out (take k.sizes m.sizes) (take k.starts m.start) (take (pair_bytes * k.goals) m.goal) (take k.bytes m.actions)
+file_kept k m = let b : Memory = kept_of k m in laid_out b.sizes b.start b.goal b.actions
 
 -- refusals 3 to 7, then 10
 abbrev pub verdict_kept : Excess → Kept → Memory → (room : ℕ) → Verdict

@@ -8,11 +8,12 @@ ghost use Rattle.rules.specs.Translation.{is_end};
 ghost use Rattle.rules.specs.declared.Verdict.TheVariants.{Accepted};
 ghost use Rattle.writer.specs.Laid.{file_length};
 ghost use Rattle.bodies.specs.Keeping.{Sound};
-ghost use Rattle.translator.specs.Intake.{memory, Lent, taken, Ready, last_line, rules_kept, file_kept, verdict_kept, stops_early, verdict_at_end, EndsWith, ended, end_with, has_room, finish_call};
+ghost use Rattle.translator.specs.Intake.{memory, read_from, Lent, taken, Ready, last_line, rules_kept, file_kept, verdict_kept, stops_early, verdict_at_end, EndsWith, ended, end_with, finish_call};
 
 use crate::intake::{Intake, Translation};
-use crate::lines::{last_line, one_more};
-use crate::position::{Position, line_due};
+use crate::lines::one_more;
+use crate::parts::Bodies;
+use crate::position::Position;
 use crate::room::has_room;
 use bodies::{Excess, Kept};
 use reader::limits::PAIR_BYTES;
@@ -21,10 +22,7 @@ use rules::{FormatLine, Refusal, Verdict};
 fn is_end(due: FormatLine) -> bool
     ensures { result ≡ is_end (shape_of due) }
 {
-    match due {
-        FormatLine::EndOfText => true,
-        _ => false,
-    }
+    matches!(due, FormatLine::EndOfText)
 }
 
 // The second verdict where the first accepts.
@@ -38,34 +36,28 @@ fn in_turn(first: Verdict, then: Verdict) -> Verdict
 }
 
 // A text that stops early is at fault at the line after its last.
+#[tactic(auto, unfolding(crate::specs::Intake::stops_early, rules::specs::Answers::judge))]
 fn stops_early(position: Position, lines: usize) -> Verdict
     ensures { result ≡ stops_early position lines }
 {
-    if is_end(line_due(position)) {
+    if is_end(position.line_due()) {
         return Verdict::Accepted;
     }
-    let at = one_more(lines);
-    Verdict::Refused(Refusal::AgainstFormat(at))
+    Verdict::Refused(Refusal::AgainstFormat(one_more(lines)))
 }
 
 // Refusals 3 to 7 on what is kept.
-fn rules_kept(kept: Kept, sizes: &[u8], start: &[u8], goal: &[u8], actions: &[u8]) -> Verdict
-    requires { Sound kept × Lent (memory sizes.now start.now goal.now actions.now) }
-    ensures { result ≡ rules_kept kept (memory sizes.now start.now goal.now actions.now) }
+#[tactic(auto, unfolding(crate::specs::Intake::rules_kept))]
+fn rules_kept(kept: Kept, bodies: Bodies<'_>) -> Verdict
+    requires { Sound kept × Lent (read_from bodies) }
+    ensures { result ≡ rules_kept kept (read_from bodies.entry) }
 {
-    let n = kept.sizes;
-    let starts = kept.starts;
-    let pairs = PAIR_BYTES * kept.goals;
-    let bytes = kept.bytes;
-    reader::file::bodies_verdict(
-        &sizes[..n],
-        &start[..starts],
-        &goal[..pairs],
-        &actions[..bytes],
-    )
+    let file = bodies.kept(kept);
+    reader::file::bodies_verdict(file.sizes, file.start, file.goal, file.actions)
 }
 
 // Refusal 10, where so many bytes are needed.
+#[tactic(auto, unfolding(rules::specs::Answers::judge))]
 fn room_verdict(needed: usize, room: usize) -> Verdict
     ensures { result ≡ judge (room_rule needed room) }
 {
@@ -84,136 +76,72 @@ fn length_kept(kept: Kept) -> usize
 }
 
 // Refusals 3 to 7, then 10.
-fn verdict_kept(
-    kept: Kept,
-    sizes: &[u8],
-    start: &[u8],
-    goal: &[u8],
-    actions: &[u8],
-    room: usize,
-) -> Verdict
-    requires { Sound kept × Lent (memory sizes.now start.now goal.now actions.now) }
-    ensures { result ≡ verdict_kept kept.excess kept (memory sizes.now start.now goal.now actions.now) room }
+fn verdict_kept(kept: Kept, bodies: Bodies<'_>, room: usize) -> Verdict
+    requires { Sound kept × Lent (read_from bodies) }
+    ensures { result ≡ verdict_kept kept.excess kept (read_from bodies.entry) room }
 {
     let excess = kept.excess;
     match excess {
         Excess::Within => in_turn(
-            rules_kept(kept, sizes, start, goal, actions),
+            rules_kept(kept, bodies),
             room_verdict(length_kept(kept), room),
         ),
         Excess::Lengths => Verdict::Refused(Refusal::BodyLength),
         Excess::Actions => in_turn(
-            rules_kept(kept, sizes, start, goal, actions),
+            rules_kept(kept, bodies),
             Verdict::Refused(Refusal::ActionAtFault(kept.actions)),
         ),
     }
 }
 
-// Refusals 30 to 32, then those.
-fn end_verdict(
-    state: Intake,
-    sizes: &[u8],
-    start: &[u8],
-    goal: &[u8],
-    actions: &[u8],
-    room: usize,
-) -> Verdict
-    requires { Sound state.kept × Lent (memory sizes.now start.now goal.now actions.now) }
-    ensures { result ≡ verdict_at_end state (memory sizes.now start.now goal.now actions.now) room }
-{
-    let early = stops_early(state.position, state.lines);
-    let kept = verdict_kept(state.kept, sizes, start, goal, actions, room);
-    let verdict = state.verdict;
-    in_turn(verdict, in_turn(early, kept))
-}
-
 // Writes the file of what is kept, and answers its length.
-fn write_kept(
-    kept: Kept,
-    sizes: &[u8],
-    start: &[u8],
-    goal: &[u8],
-    actions: &[u8],
-    room: &mut [u8],
-) -> usize
-    requires { Sound kept × Lent (memory sizes.now start.now goal.now actions.now) × (length (file_kept kept (memory sizes.now start.now goal.now actions.now)) ≤ length room.old) }
-    ensures { (result ≡ length (file_kept kept (memory sizes.now start.now goal.now actions.now))) × (room.new ≡ lent_after Accepted (file_kept kept (memory sizes.now start.now goal.now actions.now)) room.old) }
+#[tactic(auto, unfolding(crate::specs::Intake::file_kept))]
+fn write_kept(kept: Kept, bodies: Bodies<'_>, room: &mut [u8]) -> usize
+    requires { Sound kept × Lent (read_from bodies) × (length (file_kept kept (read_from bodies)) ≤ length room.old) }
+    ensures { (result ≡ length (file_kept kept (read_from bodies.entry))) × (room.new ≡ lent_after Accepted (file_kept kept (read_from bodies.entry)) room.old) }
 {
-    let n = kept.sizes;
-    let starts = kept.starts;
-    let pairs = PAIR_BYTES * kept.goals;
-    let bytes = kept.bytes;
-    writer::write_file(
-        room,
-        &sizes[..n],
-        &start[..starts],
-        &goal[..pairs],
-        &actions[..bytes],
-    )
+    let file = bodies.kept(kept);
+    writer::write_file(room, file.sizes, file.start, file.goal, file.actions)
 }
 
-// The answer at the end of a reading, and the file where it is accepted.
-fn end_with(
-    state: Intake,
-    sizes: &[u8],
-    start: &[u8],
-    goal: &[u8],
-    actions: &[u8],
-    room: &mut [u8],
-) -> Translation
-    requires { Sound state.kept × Lent (memory sizes.now start.now goal.now actions.now) }
-    ensures { EndsWith state (memory sizes.now start.now goal.now actions.now) room.old result room.new }
-{
-    let kept = state.kept;
-    let verdict = end_verdict(state, sizes, start, goal, actions, room.len());
-    match verdict {
-        Verdict::Refused(why) => Translation::Refused(why),
-        Verdict::Accepted => Translation::Written(write_kept(
-            kept, sizes, start, goal, actions, room,
-        )),
+impl Intake {
+    // Refusals 30 to 32, then those.
+    #[tactic(auto, unfolding(crate::specs::Intake::verdict_at_end))]
+    fn end_verdict(self, bodies: Bodies<'_>, room: usize) -> Verdict
+        requires { Sound self.kept × Lent (read_from bodies) }
+        ensures { result ≡ verdict_at_end self (read_from bodies.entry) room }
+    {
+        let early = stops_early(self.position, self.lines);
+        let kept = verdict_kept(self.kept, bodies, room);
+        let verdict = self.verdict;
+        in_turn(verdict, in_turn(early, kept))
+    }
+
+    // The answer at the end of a reading, and the file where it is accepted.
+    fn end_with(self, bodies: Bodies<'_>, room: &mut [u8]) -> Translation
+        requires { Sound self.kept × Lent (read_from bodies) }
+        ensures { EndsWith self (read_from bodies.entry) room.old result room.new }
+    {
+        let kept = self.kept;
+        let verdict = self.end_verdict(bodies, room.len());
+        match verdict {
+            Verdict::Refused(why) => Translation::Refused(why),
+            Verdict::Accepted => Translation::Written(write_kept(kept, bodies, room)),
+        }
+    }
+
+    // The end of a reading that has room: its last line, then the answer.
+    #[tactic(auto, unfolding(crate::specs::Intake::end_with, crate::specs::Intake::end_verdict))]
+    fn end_reading(self, bodies: Bodies<'_>, line: &[u8], room: &mut [u8]) -> Translation
+        requires { Ready (taken self (read_from bodies) line.now) }
+        ensures { ended result room.new ≡ end_with (last_line (taken self (read_from bodies.entry) line.now)) room.old }
+    {
+        self.last_line(line).end_with(bodies, room)
     }
 }
 
-// The end of a reading that has room: its last line, then the answer.
-fn end_reading(
-    state: Intake,
-    sizes: &[u8],
-    start: &[u8],
-    goal: &[u8],
-    actions: &[u8],
-    line: &[u8],
-    room: &mut [u8],
-) -> Translation
-    requires { Ready (taken state (memory sizes.now start.now goal.now actions.now) line.now) }
-    ensures { ended result room.new ≡ end_with (last_line (taken state (memory sizes.now start.now goal.now actions.now) line.now)) room.old }
-{
-    let last = last_line(state, line);
-    end_with(last, sizes, start, goal, actions, room)
-}
-
-// Whether what is lent is room for a reading.
-fn has_room_for(
-    state: Intake,
-    sizes: &[u8],
-    start: &[u8],
-    goal: &[u8],
-    actions: &[u8],
-    line: &[u8],
-) -> bool
-    ensures { result ≡ has_room (taken state (memory sizes.now start.now goal.now actions.now) line.now) }
-{
-    has_room(
-        state.kept,
-        state.held,
-        sizes.len(),
-        start.len(),
-        goal.len(),
-        actions.len(),
-        line.len(),
-    )
-}
-
 // The end of a text: its task file in the room, or the refusal, which leaves the room as found.
+#[tactic(auto, unfolding(crate::specs::Intake::finish_call))]
 pub fn finish(
     state: Intake,
     sizes: &[u8],
@@ -225,8 +153,14 @@ pub fn finish(
 ) -> Translation
     ensures { ended result room.new ≡ finish_call (taken state (memory sizes.now start.now goal.now actions.now) line.now) room.old }
 {
-    if !has_room_for(state, sizes, start, goal, actions, line) {
+    let bodies = Bodies {
+        sizes,
+        start,
+        goal,
+        actions,
+    };
+    if !has_room(state, bodies, line) {
         return Translation::Refused(Refusal::Room);
     }
-    end_reading(state, sizes, start, goal, actions, line, room)
+    state.end_reading(bodies, line, room)
 }

@@ -8,7 +8,6 @@ ghost use Rattle.translator.specs.Facts.{among_facts, one_read, fact_ends, AllRe
 use crate::holding::hold;
 use crate::intake::{Further, Intake};
 use crate::lines::one_more;
-use crate::position::repeated;
 use rules::{FormatLine, Verdict};
 
 // How far the facts of a group are read: the next byte that is not taken, how many bytes of a line are held, how many facts are left, how many lines
@@ -22,26 +21,27 @@ pub(crate) struct Facts {
 }
 
 // Whether what is held is a fact and ends at a place.
+#[tactic(auto, unfolding(crate::specs::Facts::fact_ends))]
 fn fact_ends(line: &[u8], held: usize, bytes: &[u8], at: usize) -> bool
     requires { (held ≤ head_room) × (head_room ≤ length line.now) }
     ensures { result ≡ fact_ends bytes.now at held line.now }
 {
-    if bytes.len() <= at {
-        return false;
-    }
-    textlines::is_fact(&line[..held])
+    at < bytes.len() && textlines::is_fact(&line[..held])
 }
 
-// A fact has ended before a place.
-fn one_read(facts: Facts, next: usize) -> Facts
-    requires { 0 < facts.left }
-    ensures { result ≡ one_read next facts }
-{
-    Facts {
-        at: next,
-        held: 0,
-        left: facts.left - 1,
-        lines: one_more(facts.lines),
+impl Facts {
+    // A fact has ended before a place.
+    #[tactic(auto, unfolding(crate::specs::Facts::one_read))]
+    fn one_read(self, next: usize) -> Facts
+        requires { 0 < self.left }
+        ensures { result ≡ one_read next self }
+    {
+        Facts {
+            at: next,
+            held: 0,
+            left: self.left - 1,
+            lines: one_more(self.lines),
+        }
     }
 }
 
@@ -51,47 +51,48 @@ fn read_facts(line: &mut [u8], bytes: &[u8], first: Facts) -> Facts
     ensures { AllRead bytes.now first line.old result line.new }
 {
     let mut facts = first;
-    while 0 < facts.left {
+    for _ in 0..first.left {
         let stop = hold(line, facts.held, bytes, facts.at);
         facts.at = stop.at;
         facts.held = stop.held;
         if !fact_ends(line, facts.held, bytes, facts.at) {
             return facts;
         }
-        facts = one_read(facts, facts.at + 1);
+        facts = facts.one_read(facts.at + 1);
     }
     facts
 }
 
-fn among_facts(state: Intake, facts: Facts) -> Intake
-    ensures { result ≡ among_facts facts state }
-{
-    let kept = state.kept;
-    Intake {
-        position: repeated(FormatLine::MutexFact, facts.left, state.position),
-        lines: facts.lines,
-        verdict: Verdict::Accepted,
-        kept,
-        held: facts.held,
+impl Intake {
+    // The reading is so far among the facts.
+    fn among_facts(self, facts: Facts) -> Intake
+        ensures { result ≡ among_facts facts self }
+    {
+        Intake {
+            position: self.position.repeated(FormatLine::MutexFact, facts.left),
+            lines: facts.lines,
+            verdict: Verdict::Accepted,
+            held: facts.held,
+            ..self
+        }
     }
-}
 
-// The facts of a mutex group that come next are read.
-pub(crate) fn group_facts(state: Intake, line: &mut [u8], bytes: &[u8], at: usize) -> Further
-    requires in_facts { (state.verdict ≡ Accepted) × (state.position.line ≡ MutexFact) }
-    requires rooms { (state.held ≤ head_room) × (head_room ≤ length line.old) × (at ≤ length bytes.now) }
-    ensures { FactsTaken state line.old bytes.now at result.reading result.at line.new }
-{
-    let position = state.position;
-    let first = Facts {
-        at,
-        held: state.held,
-        left: position.inner,
-        lines: state.lines,
-    };
-    let facts = read_facts(line, bytes, first);
-    Further {
-        reading: among_facts(state, facts),
-        at: facts.at,
+    // The facts of a mutex group that come next are read.
+    pub(crate) fn group_facts(self, line: &mut [u8], bytes: &[u8], at: usize) -> Further
+        requires in_facts { (self.verdict ≡ Accepted) × (self.position.line ≡ MutexFact) }
+        requires rooms { (self.held ≤ head_room) × (head_room ≤ length line.old) × (at ≤ length bytes.now) }
+        ensures { FactsTaken self line.old bytes.now at result.reading result.at line.new }
+    {
+        let first = Facts {
+            at,
+            held: self.held,
+            left: self.position.inner,
+            lines: self.lines,
+        };
+        let facts = read_facts(line, bytes, first);
+        Further {
+            reading: self.among_facts(facts),
+            at: facts.at,
+        }
     }
 }

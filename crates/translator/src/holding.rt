@@ -19,6 +19,7 @@ pub(crate) struct Stop {
 }
 
 // Whether there is no LF in a quarter of a block: each byte is looked at whatever the others are, so that a processor can compare a whole block at once.
+#[tactic(auto, unfolding(crate::specs::Intake::no_lf))]
 fn no_lf_in_quarter(bytes: &[u8], at: usize) -> bool
     requires { at + quarter_block ≤ length bytes.now }
     ensures { result ≡ no_lf bytes.now at quarter_block }
@@ -49,14 +50,12 @@ fn no_lf_in_block(bytes: &[u8], at: usize) -> bool
 }
 
 // Whether a whole block of the line goes on at a place.
+#[tactic(auto, unfolding(crate::specs::Intake::block_passes))]
 fn block_passes(bytes: &[u8], at: usize) -> bool
     requires { at ≤ length bytes.now }
     ensures { result ≡ block_passes bytes.now at }
 {
-    if bytes.len() - at < BLOCK {
-        return false;
-    }
-    no_lf_in_block(bytes, at)
+    BLOCK <= bytes.len() - at && no_lf_in_block(bytes, at)
 }
 
 // Where the line that goes on at a place ends, byte by byte.
@@ -64,14 +63,8 @@ fn near_end(bytes: &[u8], at: usize) -> usize
     requires { at ≤ length bytes.now }
     ensures { PassedUpTo bytes.now at result }
 {
-    let mut end = at;
-    while end < bytes.len() {
-        if bytes[end] == b'\n' {
-            return end;
-        }
-        end += 1;
-    }
-    end
+    let rest = &bytes[at..];
+    at + rest.iter().position(|&b| b == b'\n').unwrap_or(rest.len())
 }
 
 // Where the line that goes on at a place ends: at the next LF, or with the bytes.
@@ -80,6 +73,7 @@ fn line_end(bytes: &[u8], at: usize) -> usize
     ensures { PassedUpTo bytes.now at result }
 {
     let mut end = at;
+    // A `while`, as the position jumps by a whole block; the bytes behind the last of them are looked at one by one.
     while block_passes(bytes, end) {
         end += BLOCK;
     }
@@ -91,22 +85,26 @@ pub(crate) fn hold(line: &mut [u8], held: usize, bytes: &[u8], at: usize) -> Sto
     requires { (held ≤ head_room) × (head_room ≤ length line.old) × (at ≤ length bytes.now) }
     ensures { HeldUpTo bytes.now at held line.old result.at result.held line.new }
 {
-    let mut i = at;
-    let mut h = held;
-    while i < bytes.len() {
-        if HEAD_ROOM <= h {
+    let count = (bytes.len() - at).min(HEAD_ROOM - held);
+    for i in 0..count {
+        let b = bytes[at + i];
+        if b == b'\n' {
             return Stop {
-                at: line_end(bytes, i),
-                held: h,
+                at: at + i,
+                held: held + i,
             };
         }
-        let b = bytes[i];
-        if b == b'\n' {
-            return Stop { at: i, held: h };
-        }
-        line[h] = b;
-        h += 1;
-        i += 1;
+        line[held + i] = b;
     }
-    Stop { at: i, held: h }
+    let end = at + count;
+    if held + count < HEAD_ROOM {
+        return Stop {
+            at: end,
+            held: held + count,
+        };
+    }
+    Stop {
+        at: line_end(bytes, end),
+        held: HEAD_ROOM,
+    }
 }

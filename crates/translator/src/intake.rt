@@ -3,12 +3,11 @@ ghost use Rattle.std.specs.Prelude.{◌≡◌, ◌≤◌, ◌<◌, length, drop}
 ghost use Rattle.rules.specs.declared.Refusal.TheVariants.{Room};
 ghost use Rattle.rules.specs.declared.Verdict.TheVariants.{Refused};
 ghost use Rattle.bodies.specs.Keeping.{Sound};
-ghost use Rattle.translator.specs.Intake.{memory, head_room, taken, Ready, with_held, take_all, HeldLine, refused_for, take_call, begun};
+ghost use Rattle.translator.specs.Intake.{memory, lent_in, SameParts, head_room, taken, Ready, with_held, take_all, HeldLine, refused_for, take_call, begun};
 
-use crate::facts::group_facts;
 use crate::holding::hold;
-use crate::lines::end_line;
-use crate::position::{Position, first_position};
+use crate::parts::Parts;
+use crate::position::Position;
 use crate::room::has_room;
 use bodies::Kept;
 use rules::{FormatLine, Refusal, Verdict};
@@ -43,7 +42,7 @@ pub fn begin() -> Intake
     ensures { result ≡ begun }
 {
     Intake {
-        position: first_position(),
+        position: Position::first(),
         lines: 0,
         verdict: Verdict::Accepted,
         kept: bodies::nothing_kept(),
@@ -54,87 +53,76 @@ pub fn begin() -> Intake
 fn with_held(state: Intake, held: usize) -> Intake
     ensures { result ≡ with_held held state }
 {
+    // Stored to the one field: `Intake { held, ..state }` takes a twentieth longer on a text of mutex groups.
     let mut next = state;
     next.held = held;
     next
 }
 
-// The line that has begun goes on, up to an LF or the end of the bytes; behind a fault they are passed over.
-fn hold_line(state: Intake, line: &mut [u8], bytes: &[u8], at: usize) -> Further
-    requires { (state.held ≤ head_room) × (head_room ≤ length line.old) × (at ≤ length bytes.now) }
-    ensures { HeldLine state line.old bytes.now at result.reading result.at line.new }
-{
-    let verdict = state.verdict;
-    let Verdict::Accepted = verdict else {
-        return Further {
-            reading: state,
-            at: bytes.len(),
+impl Intake {
+    // The line that has begun goes on, up to an LF or the end of the bytes; behind a fault they are passed over.
+    fn hold_line(self, line: &mut [u8], bytes: &[u8], at: usize) -> Further
+        requires { (self.held ≤ head_room) × (head_room ≤ length line.old) × (at ≤ length bytes.now) }
+        ensures { HeldLine self line.old bytes.now at result.reading result.at line.new }
+    {
+        let verdict = self.verdict;
+        let Verdict::Accepted = verdict else {
+            return Further {
+                reading: self,
+                at: bytes.len(),
+            };
         };
-    };
-    let stop = hold(line, state.held, bytes, at);
-    Further {
-        reading: with_held(state, stop.held),
-        at: stop.at,
+        let stop = hold(line, self.held, bytes, at);
+        Further {
+            reading: with_held(self, stop.held),
+            at: stop.at,
+        }
     }
-}
 
-// Where the facts of a mutex group are due, those that come next are read; the line behind them goes on.
-fn reach_line(state: Intake, line: &mut [u8], bytes: &[u8], at: usize) -> Further
-    requires { (state.held ≤ head_room) × (head_room ≤ length line.old) × (at ≤ length bytes.now) }
-    ensures { HeldLine state line.old bytes.now at result.reading result.at line.new }
-{
-    let verdict = state.verdict;
-    let Verdict::Accepted = verdict else {
-        return hold_line(state, line, bytes, at);
-    };
-    let position = state.position;
-    let due = position.line;
-    let FormatLine::MutexFact = due else {
-        return hold_line(state, line, bytes, at);
-    };
-    let behind = group_facts(state, line, bytes, at);
-    hold_line(behind.reading, line, bytes, behind.at)
-}
-
-// The bytes from a place on, up to the end of a line and with its LF.
-fn take_line(
-    bytes: &[u8],
-    at: usize,
-    state: Intake,
-    sizes: &mut [u8],
-    start: &mut [u8],
-    goal: &mut [u8],
-    actions: &mut [u8],
-    line: &mut [u8],
-) -> Further
-    requires { Ready (taken state (memory sizes.old start.old goal.old actions.old) line.old) × (at < length bytes.now) }
-    ensures rest { take_all (taken result.reading (memory sizes.new start.new goal.new actions.new) line.new) (drop result.at bytes.now) ≡ take_all (taken state (memory sizes.old start.old goal.old actions.old) line.old) (drop at bytes.now) }
-    ensures fits { Sound result.reading.kept × (result.reading.held ≤ head_room) }
-    ensures further { (at < result.at) × (result.at ≤ length bytes.now) }
-{
-    let whole = reach_line(state, line, bytes, at);
-    let end = whole.at;
-    if bytes.len() <= end {
-        return whole;
+    // Where the facts of a mutex group are due, those that come next are read; the line behind them goes on.
+    fn reach_line(self, line: &mut [u8], bytes: &[u8], at: usize) -> Further
+        requires { (self.held ≤ head_room) × (head_room ≤ length line.old) × (at ≤ length bytes.now) }
+        ensures { HeldLine self line.old bytes.now at result.reading result.at line.new }
+    {
+        let verdict = self.verdict;
+        let Verdict::Accepted = verdict else {
+            return self.hold_line(line, bytes, at);
+        };
+        if !matches!(self.position.line, FormatLine::MutexFact) {
+            return self.hold_line(line, bytes, at);
+        }
+        let behind = self.group_facts(line, bytes, at);
+        behind.reading.hold_line(line, bytes, behind.at)
     }
-    let next = end + 1;
-    Further {
-        reading: end_line(whole.reading, sizes, start, goal, actions, line),
-        at: next,
-    }
-}
 
-fn refused_for_room(state: Intake) -> Intake
-    ensures { result ≡ refused_for (Refused Room) state }
-{
-    let position = state.position;
-    let kept = state.kept;
-    Intake {
-        position,
-        lines: state.lines,
-        verdict: Verdict::Refused(Refusal::Room),
-        kept,
-        held: state.held,
+    // The bytes from a place on, up to the end of a line and with its LF.
+    fn take_line(self, parts: &mut Parts<'_>, line: &mut [u8], bytes: &[u8], at: usize) -> Further
+        requires { Ready (taken self (lent_in parts.old) line.old) × (at < length bytes.now) }
+        ensures rest { take_all (taken result.reading (lent_in parts.new) line.new) (drop result.at bytes.now) ≡ take_all (taken self (lent_in parts.old) line.old) (drop at bytes.now) }
+        ensures fits { Sound result.reading.kept × (result.reading.held ≤ head_room) }
+        ensures same { SameParts parts.old parts.new }
+        ensures further { (at < result.at) × (result.at ≤ length bytes.now) }
+    {
+        let whole = self.reach_line(line, bytes, at);
+        let end = whole.at;
+        if bytes.len() <= end {
+            return whole;
+        }
+        let next = end + 1;
+        Further {
+            reading: whole.reading.end_line(parts, line),
+            at: next,
+        }
+    }
+
+    // What is lent is no room for the reading.
+    fn refused_for_room(self) -> Intake
+        ensures { result ≡ refused_for (Refused Room) self }
+    {
+        Intake {
+            verdict: Verdict::Refused(Refusal::Room),
+            ..self
+        }
     }
 }
 
@@ -150,21 +138,20 @@ pub fn take_bytes(
 ) -> Intake
     ensures { taken result (memory sizes.new start.new goal.new actions.new) line.new ≡ take_call (taken state (memory sizes.old start.old goal.old actions.old) line.old) bytes.now }
 {
-    if !has_room(
-        state.kept,
-        state.held,
-        sizes.len(),
-        start.len(),
-        goal.len(),
-        actions.len(),
-        line.len(),
-    ) {
-        return refused_for_room(state);
+    let mut parts = Parts {
+        sizes,
+        start,
+        goal,
+        actions,
+    };
+    if !has_room(state, parts.read(), line) {
+        return state.refused_for_room();
     }
     let mut reading = state;
     let mut at = 0;
+    // The position jumps by as many bytes as were taken.
     while at < bytes.len() {
-        let further = take_line(bytes, at, reading, sizes, start, goal, actions, line);
+        let further = reading.take_line(&mut parts, line, bytes, at);
         reading = further.reading;
         at = further.at;
     }

@@ -7,36 +7,18 @@ mod holding;
 pub mod intake;
 mod keeping;
 mod lines;
+mod parts;
 pub mod position;
 pub mod room;
 
-ghost use Rattle.std.specs.Prelude.{◌≡◌, ◌≤◌, length};
+ghost use Rattle.std.specs.Prelude.{◌≡◌, length};
 ghost use Rattle.rules.specs.File.{file_of};
 ghost use Rattle.rules.specs.Translation.{text_task, translation_verdict, translation_after};
-ghost use Rattle.translator.specs.Intake.{memory, Lent, head_room, translation};
+ghost use Rattle.translator.specs.Intake.{translation};
 
 use crate::intake::Translation;
 use crate::room::{ACTIONS_ROOM, GOAL_ROOM, HEAD_ROOM};
 use reader::limits::MAX_VARIABLES;
-
-// A whole text in one piece, with memory for its bodies and for a line.
-fn translate_in(
-    text: &[u8],
-    sizes: &mut [u8],
-    start: &mut [u8],
-    goal: &mut [u8],
-    actions: &mut [u8],
-    line: &mut [u8],
-    room: &mut [u8],
-) -> Translation
-    requires { Lent (memory sizes.old start.old goal.old actions.old) × (head_room ≤ length line.old) }
-    ensures answer { result ≡ translation (translation_verdict text.now (length room.old)) (length (file_of (text_task text.now))) }
-    ensures left { room.new ≡ translation_after text.now room.old }
-{
-    let first = intake::begin();
-    let read = intake::take_bytes(first, sizes, start, goal, actions, line, text);
-    ending::finish(read, sizes, start, goal, actions, line, room)
-}
 
 // The task file of a whole text in the room, or the refusal, which leaves the room as found.
 pub fn translate(text: &[u8], room: &mut [u8]) -> Translation
@@ -48,13 +30,14 @@ pub fn translate(text: &[u8], room: &mut [u8]) -> Translation
     let mut goal = [0u8; GOAL_ROOM];
     let mut actions = [0u8; ACTIONS_ROOM];
     let mut line = [0u8; HEAD_ROOM];
-    translate_in(
-        text,
+    let read = intake::take_bytes(
+        intake::begin(),
         &mut sizes,
         &mut start,
         &mut goal,
         &mut actions,
         &mut line,
-        room,
-    )
+        text,
+    );
+    ending::finish(read, &sizes, &start, &goal, &actions, &line, room)
 }

@@ -1,150 +1,127 @@
 // A line that has ended: judged as the line that is due, and what it adds kept.
-ghost use Rattle.std.specs.Prelude.{◌≡◌, List, ℕ, ◌≤◌, length};
+ghost use Rattle.std.specs.Prelude.{◌≡◌, List, ℕ, ◌≤◌, length, take};
 ghost use Rattle.bodies.specs.Keeping.{Sound};
-ghost use Rattle.translator.specs.Intake.{Memory, memory, Lent, kept_in, keep_line, one_more, head_room, taken, Ready, read_on, stopped_for, after_line, end_line, last_said, last_line};
+ghost use Rattle.textlines.specs.Says.{says_as};
+ghost use Rattle.translator.specs.Position.{line_due};
+ghost use Rattle.translator.specs.Intake.{Memory, lent_in, SameParts, Lent, kept_in, keep_line, one_more, head_room, taken, Ready, read_on, stopped_for, after_line, end_line, last_said, last_line};
 
 use crate::intake::Intake;
 use crate::keeping::keep_line;
-use crate::position::{line_due, moved_on};
+use crate::parts::Parts;
+use bodies::Kept;
 use rules::{FormatLine, Refusal, Verdict};
-use textlines::{Numbers, Said};
+use textlines::Numbers;
 
 // A count of lines stays at the largest number that there is.
 pub(crate) fn one_more(lines: usize) -> usize
     ensures { result ≡ one_more lines }
 {
-    if lines == usize::MAX {
-        return lines;
-    }
-    lines + 1
+    lines.saturating_add(1)
 }
 
-// A line that was in order has been read: what it adds is kept, and the next is due.
-fn read_on(
-    state: Intake,
-    due: FormatLine,
-    said: Numbers,
-    sizes: &mut [u8],
-    start: &mut [u8],
-    goal: &mut [u8],
-    actions: &mut [u8],
-) -> Intake
-    requires { Sound state.kept × Lent (memory sizes.old start.old goal.old actions.old) }
-    ensures stands { result ≡ read_on due said state result.kept }
-    ensures kept { kept_in result.kept (memory sizes.new start.new goal.new actions.new) ≡ keep_line due said (kept_in state.kept (memory sizes.old start.old goal.old actions.old)) }
-    ensures sound { Sound result.kept }
-{
-    let position = moved_on(due, said.first, state.position);
-    let lines = one_more(state.lines);
-    let kept = keep_line(due, said, state.kept, sizes, start, goal, actions);
-    Intake {
-        position,
-        lines,
-        verdict: Verdict::Accepted,
-        kept,
-        held: 0,
+impl Intake {
+    // A line that was in order has been read, and so much is kept: the next is due.
+    fn read(self, due: FormatLine, said: Numbers, kept: Kept) -> Intake
+        ensures { result ≡ read_on due said self kept }
+    {
+        Intake {
+            position: self.position.moved_on(due, said.first),
+            lines: one_more(self.lines),
+            verdict: Verdict::Accepted,
+            kept,
+            held: 0,
+        }
     }
-}
 
-// A line that was against the rules ends the reading.
-fn stopped(state: Intake, why: Refusal) -> Intake
-    ensures { result ≡ stopped_for why state }
-{
-    let position = state.position;
-    let kept = state.kept;
-    Intake {
-        position,
-        lines: state.lines,
-        verdict: Verdict::Refused(why),
-        kept,
-        held: 0,
+    // A line that was in order is read, and what it adds is kept.
+    fn read_on(self, due: FormatLine, said: Numbers, parts: &mut Parts<'_>) -> Intake
+        requires { Sound self.kept × Lent (lent_in parts.old) }
+        ensures stands { result ≡ read_on due said self result.kept }
+        ensures kept { kept_in result.kept (lent_in parts.new) ≡ keep_line due said (kept_in self.kept (lent_in parts.old)) }
+        ensures sound { Sound result.kept }
+        ensures same { SameParts parts.old parts.new }
+    {
+        let kept = keep_line(due, said, self.kept, parts);
+        self.read(due, said, kept)
     }
-}
 
-// What the line said decides: it is read, or it ends the reading.
-fn after_line(
-    state: Intake,
-    due: FormatLine,
-    said: Said,
-    sizes: &mut [u8],
-    start: &mut [u8],
-    goal: &mut [u8],
-    actions: &mut [u8],
-) -> Intake
-    requires { Sound state.kept × Lent (memory sizes.old start.old goal.old actions.old) }
-    ensures after { (line : List ℕ) → taken result (memory sizes.new start.new goal.new actions.new) line ≡ after_line said due state (memory sizes.old start.old goal.old actions.old) line }
-    ensures fits { Sound result.kept × (result.held ≤ head_room) }
-{
-    match said {
-        Said::Refused(why) => stopped(state, why),
-        Said::Says(numbers) => read_on(state, due, numbers, sizes, start, goal, actions),
+    // A line that was against the rules ends the reading.
+    fn stopped(self, why: Refusal) -> Intake
+        ensures { result ≡ stopped_for why self }
+    {
+        Intake {
+            verdict: Verdict::Refused(why),
+            held: 0,
+            ..self
+        }
     }
-}
 
-// The line that is held ends: it is judged as the line that is due.
-pub(crate) fn end_line(
-    state: Intake,
-    sizes: &mut [u8],
-    start: &mut [u8],
-    goal: &mut [u8],
-    actions: &mut [u8],
-    line: &[u8],
-) -> Intake
-    requires { Ready (taken state (memory sizes.old start.old goal.old actions.old) line.now) }
-    ensures ended { taken result (memory sizes.new start.new goal.new actions.new) line.now ≡ end_line (taken state (memory sizes.old start.old goal.old actions.old) line.now) }
-    ensures fits { Sound result.kept × (result.held ≤ head_room) }
-{
-    let verdict = state.verdict;
-    let Verdict::Accepted = verdict else {
-        return state;
-    };
-    let held = state.held;
-    let due = line_due(state.position);
-    let said = textlines::says(due, one_more(state.lines), &line[..held]);
-    after_line(state, due, said, sizes, start, goal, actions)
-}
-
-// A last line that was in order has been read: it ends the text, or the text stops early, and what it adds matters to neither.
-fn read_last(state: Intake, due: FormatLine, said: Numbers) -> Intake
-    ensures { result ≡ read_on due said state state.kept }
-{
-    let position = moved_on(due, said.first, state.position);
-    let lines = one_more(state.lines);
-    let kept = state.kept;
-    Intake {
-        position,
-        lines,
-        verdict: Verdict::Accepted,
-        kept,
-        held: 0,
+    // What the line said decides: it is read, or it ends the reading.
+    fn after_line(
+        self,
+        due: FormatLine,
+        said: Result<Numbers, Refusal>,
+        parts: &mut Parts<'_>,
+    ) -> Intake
+        requires { Sound self.kept × Lent (lent_in parts.old) }
+        ensures after { (line : List ℕ) → taken result (lent_in parts.new) line ≡ after_line said due self (lent_in parts.old) line }
+        ensures fits { Sound result.kept × (result.held ≤ head_room) }
+        ensures same { SameParts parts.old parts.new }
+    {
+        match said {
+            Err(why) => self.stopped(why),
+            Ok(numbers) => self.read_on(due, numbers, parts),
+        }
     }
-}
 
-// What a last line said decides.
-fn last_said(state: Intake, due: FormatLine, said: Said) -> Intake
-    ensures { result ≡ last_said said due state }
-{
-    match said {
-        Said::Refused(why) => stopped(state, why),
-        Said::Says(numbers) => read_last(state, due, numbers),
+    // What the line that is held says as the line that is due.
+    fn held_says(self, line: &[u8]) -> Result<Numbers, Refusal>
+        requires { (self.held ≤ head_room) × (head_room ≤ length line.now) }
+        ensures { result ≡ says_as (line_due self.position) (one_more self.lines) (take self.held line.now) }
+    {
+        let at = one_more(self.lines);
+        textlines::says(self.position.line_due(), at, &line[..self.held])
     }
-}
 
-// What is held of a last line without LF is a line; it is judged and not kept.
-pub(crate) fn last_line(state: Intake, line: &[u8]) -> Intake
-    requires { (state.held ≤ head_room) × (head_room ≤ length line.now) }
-    ensures last { (m : Memory) → taken result m line.now ≡ last_line (taken state m line.now) }
-    ensures kept { result.kept ≡ state.kept }
-{
-    let held = state.held;
-    if held == 0 {
-        return state;
+    // The line that is held ends: it is judged as the line that is due.
+    #[tactic(auto, unfolding(crate::specs::Intake::end_line))]
+    pub(crate) fn end_line(self, parts: &mut Parts<'_>, line: &[u8]) -> Intake
+        requires { Ready (taken self (lent_in parts.old) line.now) }
+        ensures ended { taken result (lent_in parts.new) line.now ≡ end_line (taken self (lent_in parts.old) line.now) }
+        ensures fits { Sound result.kept × (result.held ≤ head_room) }
+        ensures same { SameParts parts.old parts.new }
+    {
+        let verdict = self.verdict;
+        let Verdict::Accepted = verdict else {
+            return self;
+        };
+        self.after_line(self.position.line_due(), self.held_says(line), parts)
     }
-    let verdict = state.verdict;
-    let Verdict::Accepted = verdict else {
-        return state;
-    };
-    let due = line_due(state.position);
-    let said = textlines::says(due, one_more(state.lines), &line[..held]);
-    last_said(state, due, said)
+
+    // What a last line said decides. One that was in order ends the text, or the text stops early, and what it adds matters to neither.
+    fn last_said(self, due: FormatLine, said: Result<Numbers, Refusal>) -> Intake
+        ensures { result ≡ last_said said due self }
+    {
+        match said {
+            Err(why) => self.stopped(why),
+            Ok(numbers) => self.read(due, numbers, self.kept),
+        }
+    }
+
+    // What is held of a last line without LF is a line; it is judged and not kept.
+    #[tactic(auto, unfolding(crate::specs::Intake::last_line))]
+    pub(crate) fn last_line(self, line: &[u8]) -> Intake
+        requires { (self.held ≤ head_room) × (head_room ≤ length line.now) }
+        ensures last { (m : Memory) → taken result m line.now ≡ last_line (taken self m line.now) }
+        ensures kept { result.kept ≡ self.kept }
+    {
+        if self.held == 0 {
+            return self;
+        }
+        let verdict = self.verdict;
+        let Verdict::Accepted = verdict else {
+            return self;
+        };
+        self.last_said(self.position.line_due(), self.held_says(line))
+    }
 }

@@ -1,5 +1,5 @@
 // Where a reading stands in the format.
-ghost use Rattle.std.specs.Prelude.{◌≡◌, ◌-◌};
+ghost use Rattle.std.specs.Prelude.{◌≡◌};
 ghost use Rattle.translator.specs.Position.{first_position, unless_over, line_due, to, again, around, repeated, rounds, of_variables, moved_on};
 
 use rules::FormatLine;
@@ -14,17 +14,6 @@ pub struct Position {
     pub variables: usize,
 }
 
-pub(crate) fn first_position() -> Position
-    ensures { result ≡ first_position }
-{
-    Position {
-        line: FormatLine::BeginVersion,
-        inner: 0,
-        outer: 0,
-        variables: 0,
-    }
-}
-
 // Where no repetition is left, the line behind them.
 fn unless_over(left: usize, repeat: FormatLine, behind: FormatLine) -> FormatLine
     ensures { result ≡ unless_over left repeat behind }
@@ -35,147 +24,144 @@ fn unless_over(left: usize, repeat: FormatLine, behind: FormatLine) -> FormatLin
     repeat
 }
 
-// The line that is due at a position.
-pub(crate) fn line_due(p: Position) -> FormatLine
-    ensures { result ≡ line_due p }
-{
-    let line = p.line;
-    match line {
-        FormatLine::BeginVariable => unless_over(p.outer, line, FormatLine::MutexGroupCount),
-        FormatLine::AtomName => unless_over(p.inner, line, FormatLine::EndVariable),
-        FormatLine::BeginMutexGroup => unless_over(p.outer, line, FormatLine::BeginState),
-        FormatLine::MutexFact => unless_over(p.inner, line, FormatLine::EndMutexGroup),
-        FormatLine::StateValue => unless_over(p.inner, line, FormatLine::EndState),
-        FormatLine::GoalFact => unless_over(p.inner, line, FormatLine::EndGoal),
-        FormatLine::BeginOperator => unless_over(p.outer, line, FormatLine::AxiomCount),
-        FormatLine::PrevailCondition => unless_over(p.inner, line, FormatLine::EffectCount),
-        FormatLine::Effect => unless_over(p.inner, line, FormatLine::Cost),
-        _ => line,
+impl Position {
+    // Before the first line.
+    pub(crate) fn first() -> Position
+        ensures { result ≡ first_position }
+    {
+        Position {
+            line: FormatLine::BeginVersion,
+            inner: 0,
+            outer: 0,
+            variables: 0,
+        }
     }
-}
 
-// At another line, with the same counts.
-fn to(line: FormatLine, p: Position) -> Position
-    ensures { result ≡ to line p }
-{
-    Position {
-        line,
-        inner: p.inner,
-        outer: p.outer,
-        variables: p.variables,
+    // The line that is due here.
+    #[tactic(auto, unfolding(crate::specs::Position::line_due))]
+    pub(crate) fn line_due(self) -> FormatLine
+        ensures { result ≡ line_due self }
+    {
+        let line = self.line;
+        match line {
+            FormatLine::BeginVariable => unless_over(self.outer, line, FormatLine::MutexGroupCount),
+            FormatLine::AtomName => unless_over(self.inner, line, FormatLine::EndVariable),
+            FormatLine::BeginMutexGroup => unless_over(self.outer, line, FormatLine::BeginState),
+            FormatLine::MutexFact => unless_over(self.inner, line, FormatLine::EndMutexGroup),
+            FormatLine::StateValue => unless_over(self.inner, line, FormatLine::EndState),
+            FormatLine::GoalFact => unless_over(self.inner, line, FormatLine::EndGoal),
+            FormatLine::BeginOperator => unless_over(self.outer, line, FormatLine::AxiomCount),
+            FormatLine::PrevailCondition => unless_over(self.inner, line, FormatLine::EffectCount),
+            FormatLine::Effect => unless_over(self.inner, line, FormatLine::Cost),
+            _ => line,
+        }
     }
-}
 
-// The larger of one less and nothing.
-fn one_less(count: usize) -> usize
-    ensures { result ≡ count - 1 }
-{
-    if count == 0 {
-        return 0;
+    // At another line, with the same counts.
+    fn to(self, line: FormatLine) -> Position
+        ensures { result ≡ to line self }
+    {
+        Position { line, ..self }
     }
-    count - 1
-}
 
-// One of the repeated lines has been read.
-fn again(line: FormatLine, p: Position) -> Position
-    ensures { result ≡ again line p }
-{
-    Position {
-        line,
-        inner: one_less(p.inner),
-        outer: p.outer,
-        variables: p.variables,
+    // One of the repeated lines has been read.
+    fn again(self, line: FormatLine) -> Position
+        ensures { result ≡ again line self }
+    {
+        Position {
+            line,
+            inner: self.inner.saturating_sub(1),
+            ..self
+        }
     }
-}
 
-// One variable, group or operator has been read.
-fn around(line: FormatLine, p: Position) -> Position
-    ensures { result ≡ around line p }
-{
-    Position {
-        line,
-        inner: p.inner,
-        outer: one_less(p.outer),
-        variables: p.variables,
+    // One variable, group or operator has been read.
+    fn around(self, line: FormatLine) -> Position
+        ensures { result ≡ around line self }
+    {
+        Position {
+            line,
+            outer: self.outer.saturating_sub(1),
+            ..self
+        }
     }
-}
 
-// A line is due m times.
-pub(crate) fn repeated(line: FormatLine, m: usize, p: Position) -> Position
-    ensures { result ≡ repeated line m p }
-{
-    Position {
-        line,
-        inner: m,
-        outer: p.outer,
-        variables: p.variables,
+    // A line is due m times.
+    pub(crate) fn repeated(self, line: FormatLine, m: usize) -> Position
+        ensures { result ≡ repeated line m self }
+    {
+        Position {
+            line,
+            inner: m,
+            ..self
+        }
     }
-}
 
-// A group or an operator is due m times.
-fn rounds(line: FormatLine, m: usize, p: Position) -> Position
-    ensures { result ≡ rounds line m p }
-{
-    Position {
-        line,
-        inner: p.inner,
-        outer: m,
-        variables: p.variables,
+    // A group or an operator is due m times.
+    fn rounds(self, line: FormatLine, m: usize) -> Position
+        ensures { result ≡ rounds line m self }
+    {
+        Position {
+            line,
+            outer: m,
+            ..self
+        }
     }
-}
 
-// So many variables are due, and later as many start values.
-fn of_variables(m: usize, p: Position) -> Position
-    ensures { result ≡ of_variables m p }
-{
-    Position {
-        line: FormatLine::BeginVariable,
-        inner: p.inner,
-        outer: m,
-        variables: m,
+    // So many variables are due, and later as many start values.
+    fn of_variables(self, m: usize) -> Position
+        ensures { result ≡ of_variables m self }
+    {
+        Position {
+            line: FormatLine::BeginVariable,
+            outer: m,
+            variables: m,
+            ..self
+        }
     }
-}
 
-// The position behind a line that was due, which said the number m.
-pub(crate) fn moved_on(line: FormatLine, m: usize, p: Position) -> Position
-    ensures { result ≡ moved_on line m p }
-{
-    match line {
-        FormatLine::BeginVersion => to(FormatLine::Version, p),
-        FormatLine::Version => to(FormatLine::EndVersion, p),
-        FormatLine::EndVersion => to(FormatLine::BeginMetric, p),
-        FormatLine::BeginMetric => to(FormatLine::Metric, p),
-        FormatLine::Metric => to(FormatLine::EndMetric, p),
-        FormatLine::EndMetric => to(FormatLine::VariableCount, p),
-        FormatLine::VariableCount => of_variables(m, p),
-        FormatLine::BeginVariable => to(FormatLine::VariableName, p),
-        FormatLine::VariableName => to(FormatLine::AxiomLayer, p),
-        FormatLine::AxiomLayer => to(FormatLine::Range, p),
-        FormatLine::Range => repeated(FormatLine::AtomName, m, p),
-        FormatLine::AtomName => again(FormatLine::AtomName, p),
-        FormatLine::EndVariable => around(FormatLine::BeginVariable, p),
-        FormatLine::MutexGroupCount => rounds(FormatLine::BeginMutexGroup, m, p),
-        FormatLine::BeginMutexGroup => to(FormatLine::MutexFactCount, p),
-        FormatLine::MutexFactCount => repeated(FormatLine::MutexFact, m, p),
-        FormatLine::MutexFact => again(FormatLine::MutexFact, p),
-        FormatLine::EndMutexGroup => around(FormatLine::BeginMutexGroup, p),
-        FormatLine::BeginState => repeated(FormatLine::StateValue, p.variables, p),
-        FormatLine::StateValue => again(FormatLine::StateValue, p),
-        FormatLine::EndState => to(FormatLine::BeginGoal, p),
-        FormatLine::BeginGoal => to(FormatLine::GoalCount, p),
-        FormatLine::GoalCount => repeated(FormatLine::GoalFact, m, p),
-        FormatLine::GoalFact => again(FormatLine::GoalFact, p),
-        FormatLine::EndGoal => to(FormatLine::OperatorCount, p),
-        FormatLine::OperatorCount => rounds(FormatLine::BeginOperator, m, p),
-        FormatLine::BeginOperator => to(FormatLine::OperatorName, p),
-        FormatLine::OperatorName => to(FormatLine::PrevailCount, p),
-        FormatLine::PrevailCount => repeated(FormatLine::PrevailCondition, m, p),
-        FormatLine::PrevailCondition => again(FormatLine::PrevailCondition, p),
-        FormatLine::EffectCount => repeated(FormatLine::Effect, m, p),
-        FormatLine::Effect => again(FormatLine::Effect, p),
-        FormatLine::Cost => to(FormatLine::EndOperator, p),
-        FormatLine::EndOperator => around(FormatLine::BeginOperator, p),
-        FormatLine::AxiomCount => to(FormatLine::EndOfText, p),
-        FormatLine::EndOfText => p,
+    // The position behind a line that was due, which said the number m.
+    #[tactic(auto, using(crate::proofs::PositionLaws::moved_in), unfolding(crate::specs::Position::moved_on))]
+    pub(crate) fn moved_on(self, due: FormatLine, m: usize) -> Position
+        ensures { result ≡ moved_on due m self }
+    {
+        match due {
+            FormatLine::BeginVersion => self.to(FormatLine::Version),
+            FormatLine::Version => self.to(FormatLine::EndVersion),
+            FormatLine::EndVersion => self.to(FormatLine::BeginMetric),
+            FormatLine::BeginMetric => self.to(FormatLine::Metric),
+            FormatLine::Metric => self.to(FormatLine::EndMetric),
+            FormatLine::EndMetric => self.to(FormatLine::VariableCount),
+            FormatLine::VariableCount => self.of_variables(m),
+            FormatLine::BeginVariable => self.to(FormatLine::VariableName),
+            FormatLine::VariableName => self.to(FormatLine::AxiomLayer),
+            FormatLine::AxiomLayer => self.to(FormatLine::Range),
+            FormatLine::Range => self.repeated(FormatLine::AtomName, m),
+            FormatLine::AtomName => self.again(FormatLine::AtomName),
+            FormatLine::EndVariable => self.around(FormatLine::BeginVariable),
+            FormatLine::MutexGroupCount => self.rounds(FormatLine::BeginMutexGroup, m),
+            FormatLine::BeginMutexGroup => self.to(FormatLine::MutexFactCount),
+            FormatLine::MutexFactCount => self.repeated(FormatLine::MutexFact, m),
+            FormatLine::MutexFact => self.again(FormatLine::MutexFact),
+            FormatLine::EndMutexGroup => self.around(FormatLine::BeginMutexGroup),
+            FormatLine::BeginState => self.repeated(FormatLine::StateValue, self.variables),
+            FormatLine::StateValue => self.again(FormatLine::StateValue),
+            FormatLine::EndState => self.to(FormatLine::BeginGoal),
+            FormatLine::BeginGoal => self.to(FormatLine::GoalCount),
+            FormatLine::GoalCount => self.repeated(FormatLine::GoalFact, m),
+            FormatLine::GoalFact => self.again(FormatLine::GoalFact),
+            FormatLine::EndGoal => self.to(FormatLine::OperatorCount),
+            FormatLine::OperatorCount => self.rounds(FormatLine::BeginOperator, m),
+            FormatLine::BeginOperator => self.to(FormatLine::OperatorName),
+            FormatLine::OperatorName => self.to(FormatLine::PrevailCount),
+            FormatLine::PrevailCount => self.repeated(FormatLine::PrevailCondition, m),
+            FormatLine::PrevailCondition => self.again(FormatLine::PrevailCondition),
+            FormatLine::EffectCount => self.repeated(FormatLine::Effect, m),
+            FormatLine::Effect => self.again(FormatLine::Effect),
+            FormatLine::Cost => self.to(FormatLine::EndOperator),
+            FormatLine::EndOperator => self.around(FormatLine::BeginOperator),
+            FormatLine::AxiomCount => self.to(FormatLine::EndOfText),
+            FormatLine::EndOfText => self,
+        }
     }
 }

@@ -1,13 +1,16 @@
+-- `has_words` meets its contract.
 -- Assumes nothing.
 use borrow.Author.Rules.{rules}
-use Rattle.textlines.proofs.WordPlaces.{count_none, count_last, count_on}
+use borrow.Author.Tests.{tests}
+use lib.Dec.{eqb}
+use Rattle.std.proofs.lemmas.Iterator.Consumers.{count_from_yields_List}
+use Rattle.std.proofs.lemmas.Iterator.Splits.{YieldsList-from_slice_split}
+use Rattle.rules.specs.Text.{space}
+use Rattle.textlines.proofs.WordPlaces.{count_split}
 use Rattle.textlines.proofs.words.has_words.Goals as goal
 
-pub returns-then-end-line : goal.returns-then-end-line
-returns-then-end-line c = search (rules, count_last)
-
-pub loop-left-preserved : goal.loop-left-preserved
-loop-left-preserved c = search (rules, count_on)
-
 pub returns : goal.returns
-returns c = search (rules, count_none)
+returns c =
+    count_split c.args.line.now c.count.result c.args.count
+    (count_from_yields_List _ _ c.count.ensures.ran
+    (YieldsList-from_slice_split _ (λ b. eqb b space) c.args.line.now c.split.ensures.rest c.split.ensures.done c.split.ensures.closure (λ x b q k. search (rules, tests))))

@@ -1,14 +1,8 @@
 -- `verdict_kept` meets its contract.
 -- Assumes nothing.
 use borrow.Author.Rules.{rules}
-use Rattle.translator.proofs.EndLaws.{verdict_within, verdict_lengths, verdict_actions}
+use Rattle.translator.proofs.EndLaws.{verdict_within}
 use Rattle.translator.proofs.ending.verdict_kept.Goals as goal
 
 pub returns-in-Within : goal.returns-in-Within
 returns-in-Within c = search (rules, verdict_within)
-
-pub returns-in-Lengths : goal.returns-in-Lengths
-returns-in-Lengths c = search (rules, verdict_lengths)
-
-pub returns-in-Actions : goal.returns-in-Actions
-returns-in-Actions c = search (rules, verdict_actions)

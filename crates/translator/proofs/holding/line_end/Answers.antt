@@ -6,9 +6,6 @@ use Rattle.translator.proofs.holding.line_end.Goals as goal
 pub loop-end-init : goal.loop-end-init
 loop-end-init c = search (rules, passed_none)
 
-pub overflow_add-end : goal.overflow_add-end
-overflow_add-end c = search (rules, block_within)
-
 pub loop-end-smaller : goal.loop-end-smaller
 loop-end-smaller c = search (rules, block_less)
 

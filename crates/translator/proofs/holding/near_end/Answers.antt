@@ -1,16 +1,21 @@
+-- `near_end` meets its contract: the first LF from there on is where the line ends.
 -- Assumes nothing.
+use mathlib.Core.Logic.{◌≢◌}
+use mathlib.Core.Path.{◌≡◌, ap, ◌∙◌}
 use borrow.Author.Rules.{rules}
-use Rattle.translator.proofs.ByteLaws.{passed_none, passed_byte, passed_to_lf, passed_to_end}
+use borrow.Author.Tests.{tests}
+use lib.ListN.{length, drop, length-drop}
+use Rattle.std.specs.Option.{unwrap_or}
+use Rattle.std.proofs.lemmas.Iterator.{IsFirst-from_position, YieldsList-from_slice}
+use Rattle.rules.specs.Text.{lf}
+use Rattle.translator.proofs.ByteLaws.{left_from, passed_first}
 use Rattle.translator.proofs.holding.near_end.Goals as goal
 
-pub loop-end-init : goal.loop-end-init
-loop-end-init c = search (rules, passed_none)
-
-pub returns-then-bytes-end-eq10 : goal.returns-then-bytes-end-eq10
-returns-then-bytes-end-eq10 c = search (rules, passed_to_lf)
-
-pub loop-end-preserved : goal.loop-end-preserved
-loop-end-preserved c = search (rules, passed_byte)
-
 pub returns : goal.returns
-returns c = search (rules, passed_to_end)
+returns c =
+    passed_first c.args.bytes.now c.args.at c.unwrap_or.result c.position.result c.requires
+    (c.unwrap_or.ensures ∙ ap (unwrap_or c.position.result) (ap length (left_from c.args.bytes.now c.args.at) ∙ length-drop c.args.at c.args.bytes.now))
+    (IsFirst-from_position _ _ _ (λ b. b ≡ lf) (λ b. b ≢ lf) c.position.ensures.ran
+    (YieldsList-from_slice (drop c.args.at c.args.bytes.now) (c.iter.ensures.rest ∙ left_from c.args.bytes.now c.args.at))
+    (λ x q k. search (rules, tests))
+    (λ x q k. search (rules, tests)))

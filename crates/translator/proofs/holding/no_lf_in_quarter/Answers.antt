@@ -1,8 +1,0 @@
--- `no_lf_in_quarter` meets its contract.
--- Assumes nothing.
-use borrow.Author.Rules.{rules}
-use Rattle.translator.proofs.ByteLaws.{no_lf-quarter}
-use Rattle.translator.proofs.holding.no_lf_in_quarter.Goals as goal
-
-pub returns : goal.returns
-returns c = search (rules, no_lf-quarter)
