@@ -1,10 +1,7 @@
 -- `count_accepted` ends and is safe.
 -- Assumes nothing.
-use Prim.Native.Nat.{◌≤◌, ◌-◌}
+use Prim.Native.Nat.{◌≤◌}
 use Rattle.checker_cases.proofs.count_accepted.Given as goal
 
 abbrev pub invariant-loop-truth : goal.invariant-loop-truth
-invariant-loop-truth l = (l.truth ≤ l.models) × (l.count ≤ l.truth)
-
-abbrev pub decreases-loop-truth : goal.decreases-loop-truth
-decreases-loop-truth l = l.models - l.truth
+invariant-loop-truth g l = l.count ≤ l.truth
