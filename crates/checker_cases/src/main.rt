@@ -44,28 +44,21 @@ fn finish(
     println!(rt; "")
 }
 
-// 1 for a model that is accepted, 0 for another.
-fn accepted(file: &[u8], horizon: usize, given: u64, truth: u64) -> u64
-    ensures { result ≤ 1 }
-{
+fn is_accepted(file: &[u8], horizon: usize, given: u64, truth: u64) -> bool {
     let mut entries = [9u32; 4];
     let reading = Reading {
         highest: 0,
         phase: Phase::ModelClosed,
     };
     let verdict = checker::end::finish(file, horizon, reading, &[given], &[truth], &mut entries);
-    match verdict {
-        Verdict::Accepted => 1,
-        Verdict::Refused(_) => 0,
-    }
+    matches!(verdict, Verdict::Accepted)
 }
 
 // How many of the first models, by their row, are accepted.
 fn count_accepted(rt: &impl Print, file: &[u8], horizon: usize, models: u64) -> io::Result<()> {
-    let mut count = 0;
-    for truth in 0..models {
-        count += accepted(file, horizon, ALL, truth);
-    }
+    let count = (0..models)
+        .filter(|truth| is_accepted(file, horizon, ALL, *truth))
+        .count();
     println!(rt; "{count} ")
 }
 
@@ -79,10 +72,9 @@ fn count_partial(
 ) -> io::Result<()>
     requires { 0 < words }
 {
-    let mut count = 0;
-    for pair in 0..pairs {
-        count += accepted(file, horizon, pair / words, pair % words);
-    }
+    let count = (0..pairs)
+        .filter(|pair| is_accepted(file, horizon, *pair / words, *pair % words))
+        .count();
     println!(rt; "{count} ")
 }
 
