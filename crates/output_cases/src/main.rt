@@ -104,21 +104,7 @@ fn fill(row: &mut [u64], first: u64) {
     }
 }
 
-// Where the piece that begins at `at` ends.
-fn piece_end(at: usize, size: usize, end: usize) -> usize
-    requires { at < end }
-    ensures { (at < result) × (result ≤ end) }
-{
-    if size == 0 {
-        return end;
-    }
-    if end - at <= size {
-        return end;
-    }
-    at + size
-}
-
-// A whole output in pieces.
+// A whole output in pieces; size 0 is all at once.
 fn run_block(
     rt: &impl Print,
     highest: usize,
@@ -132,12 +118,9 @@ fn run_block(
         highest,
         phase: Phase::NoStatus,
     });
-    let mut at = 0;
-    // a `while`: the last piece is shorter, and size 0 is all
-    while at < block.len() {
-        let end = piece_end(at, size, block.len());
-        state = feeding::take_bytes(state, given, truth, line, &block[at..end]);
-        at = end;
+    let most = if size == 0 { usize::MAX } else { size };
+    for piece in block.chunks(most) {
+        state = feeding::take_bytes(state, given, truth, line, piece);
     }
     let answer = feeding::finish(state, given, truth, line);
     print_answer(rt, answer, given, truth)
