@@ -6,6 +6,7 @@
 ghost use Rattle.std.specs.Prelude.{◌<◌, ◌≤◌};
 
 use rules::{Phase, Reading, Verdict};
+use showing::print_verdict;
 use std::io;
 
 const ALL: u64 = 18446744073709551615;
@@ -14,17 +15,6 @@ const ALL: u64 = 18446744073709551615;
 const TAKE_AND_RUN: u64 = 39317;
 
 const VARIABLES: usize = 16;
-
-fn print_verdict(rt: &impl Print, verdict: Verdict) -> io::Result<()> {
-    let Verdict::Refused(why) = verdict else {
-        return print!(rt; "0 0 ");
-    };
-    print!(rt;
-        "{} {} ",
-        refusals::number_of(why),
-        refusals::detail_of(why)
-    )
-}
 
 fn finish(
     rt: &impl Print,
@@ -39,9 +29,9 @@ fn finish(
     let verdict = checker::end::finish(file, horizon, reading, &[given], &[truth], &mut entries);
     print_verdict(rt, verdict)?;
     for entry in &entries {
-        print!(rt; "{entry} ")?;
+        print!(rt; " {entry}")?;
     }
-    println!(rt; "")
+    println!(rt; " ")
 }
 
 fn is_accepted(file: &[u8], horizon: usize, given: u64, truth: u64) -> bool {

@@ -4,23 +4,14 @@
 
 ghost use Rattle.std.specs.Prelude.{◌≤◌};
 
-use rules::{LineAnswer, Phase};
+use rules::LineAnswer;
+use showing::{name_of, print_refusal, print_row};
 use std::io;
 
 const ROW_WORDS: usize = 8;
 
 // A horizon that would be 1 if it were cut to 32 bits or fewer.
 const WIDE: usize = 4294967297;
-
-fn name_of(phase: Phase) -> &'static str {
-    match phase {
-        Phase::NoStatus => "no-status",
-        Phase::ModelOpen => "open",
-        Phase::ModelClosed => "closed",
-        Phase::SaidUnsatisfiable => "unsatisfiable",
-        Phase::SaidUnknown => "unknown",
-    }
-}
 
 fn print_answer(rt: &impl Print, answer: LineAnswer) -> io::Result<()> {
     match answer {
@@ -29,21 +20,10 @@ fn print_answer(rt: &impl Print, answer: LineAnswer) -> io::Result<()> {
             print!(rt; " : next {} {}", reading.highest, name_of(phase))
         }
         LineAnswer::Refused(why) => {
-            print!(rt;
-                " : refused {} {}",
-                refusals::number_of(why),
-                refusals::detail_of(why)
-            )
+            print!(rt; " : refused ")?;
+            print_refusal(rt, why)
         }
     }
-}
-
-fn print_row(rt: &impl Print, row: &[u64]) -> io::Result<()> {
-    print!(rt; " :")?;
-    for word in row {
-        print!(rt; " {word}")?;
-    }
-    Ok(())
 }
 
 // Both rows are lent with so many words.

@@ -13,6 +13,7 @@ use lent_bytes::words::line_end;
 use output::feeding;
 use output::feeding::LINE_ROOM;
 use rules::{LineAnswer, Phase, Reading};
+use showing::{name_of, print_refusal};
 use std::io::Result;
 
 // Standard input, by its number.
@@ -23,16 +24,6 @@ const ROW_WORDS: usize = 32;
 const MARK: u8 = b'~';
 
 // ---- printing
-
-fn name_of(phase: Phase) -> &'static str {
-    match phase {
-        Phase::NoStatus => "no-status",
-        Phase::ModelOpen => "open",
-        Phase::ModelClosed => "closed",
-        Phase::SaidUnsatisfiable => "unsatisfiable",
-        Phase::SaidUnknown => "unknown",
-    }
-}
 
 fn first_word(row: &[u64]) -> u64 {
     row.first().copied().unwrap_or(0)
@@ -45,11 +36,8 @@ fn print_answer(rt: &impl Print, answer: LineAnswer, given: &[u64], truth: &[u64
             print!(rt; "next {}", name_of(phase))?;
         }
         LineAnswer::Refused(why) => {
-            print!(rt;
-                "refused {} {}",
-                refusals::number_of(why),
-                refusals::detail_of(why)
-            )?;
+            print!(rt; "refused ")?;
+            print_refusal(rt, why)?;
         }
     }
     println!(rt; " {} {}", first_word(given), first_word(truth))

@@ -4,32 +4,13 @@
 
 ghost use Rattle.std.specs.Prelude.{◌≤◌};
 
-use rules::Verdict;
+use showing::{print_row, print_verdict};
 use std::io;
 
 const ROW_WORDS: usize = 8;
 
 // One more than the highest entry that the folder example knows.
 const ENTRIES: u32 = 4;
-
-fn print_verdict(rt: &impl Print, verdict: Verdict) -> io::Result<()> {
-    let Verdict::Refused(why) = verdict else {
-        return print!(rt; " : 0 0");
-    };
-    print!(rt;
-        " : {} {}",
-        refusals::number_of(why),
-        refusals::detail_of(why)
-    )
-}
-
-fn print_row(rt: &impl Print, row: &[u64]) -> io::Result<()> {
-    print!(rt; " :")?;
-    for word in row {
-        print!(rt; " {word}")?;
-    }
-    Ok(())
-}
 
 fn print_entries(rt: &impl Print, horizon: usize, entries: &[u32]) -> io::Result<()> {
     print!(rt; "k {horizon} :")?;
@@ -41,6 +22,7 @@ fn print_entries(rt: &impl Print, horizon: usize, entries: &[u32]) -> io::Result
 
 fn judge(rt: &impl Print, file: &[u8], horizon: usize, entries: &[u32]) -> io::Result<()> {
     print_entries(rt, horizon, entries)?;
+    print!(rt; " : ")?;
     print_verdict(rt, schedule::schedule_checked(file, horizon, entries))?;
     println!(rt; "")
 }
@@ -59,6 +41,7 @@ fn go_back(
     let mut given_row = [7u64; ROW_WORDS];
     let mut truth_row = [7u64; ROW_WORDS];
     print_entries(rt, horizon, entries)?;
+    print!(rt; " : ")?;
     print_verdict(rt, schedule::schedule_checked(file, horizon, entries))?;
     let verdict = schedule::way_back(
         file,
@@ -67,6 +50,7 @@ fn go_back(
         &mut given_row[..given],
         &mut truth_row[..truth],
     );
+    print!(rt; " : ")?;
     print_verdict(rt, verdict)?;
     print_row(rt, &given_row)?;
     print_row(rt, &truth_row)?;

@@ -11,6 +11,7 @@ ghost use Rattle.rules.specs.declared.Verdict.TheVariants.{Accepted};
 ghost use Rattle.task.specs.Index.{Indexed};
 
 use rules::Verdict;
+use showing::print_verdict;
 use std::io::Result;
 use task::index::INDEX_LENGTH;
 use task::numbering::{ActionNumber, ValuePlace};
@@ -27,15 +28,6 @@ const SHOWN: usize = 3;
 const BODIES: usize = 6;
 
 // ---- answers
-
-fn print_verdict(rt: &impl Print, verdict: Verdict) -> Result<()> {
-    match verdict {
-        Verdict::Accepted => print!(rt; "0 0"),
-        Verdict::Refused(why) => {
-            print!(rt; "{} {}", refusals::number_of(why), refusals::detail_of(why))
-        }
-    }
-}
 
 fn print_bodies(rt: &impl Print, file: &[u8]) -> Result<()> {
     print!(rt; "; bodies")?;

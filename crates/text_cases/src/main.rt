@@ -5,6 +5,7 @@
 
 ghost use Rattle.std.specs.Prelude.{◌≤◌, length};
 
+use showing::print_refusal;
 use std::io;
 use std::io::Read;
 use text::calls::{TextAnswer, clause_line, header, lines};
@@ -20,11 +21,9 @@ fn show_answer(rt: &impl Print, answer: TextAnswer) -> io::Result<()> {
     match answer {
         TextAnswer::Written { lines, bytes } => print!(rt; "{lines} lines, {bytes} bytes: "),
         TextAnswer::Refused(why) => {
-            print!(rt;
-                "refused {} {}: ",
-                refusals::number_of(why),
-                refusals::detail_of(why)
-            )
+            print!(rt; "refused ")?;
+            print_refusal(rt, why)?;
+            print!(rt; ": ")
         }
     }
 }
