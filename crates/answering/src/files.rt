@@ -12,6 +12,9 @@ use task::index::INDEX_LENGTH;
 
 const BODIES: usize = 4;
 
+// What an answer has in place of the start of a body that is not there.
+const NO_START: usize = 0;
+
 // What an answer has in place of the end of a part that is not the stretch which it has to be: no file is so long.
 const NO_STRETCH: usize = 18446744073709551615;
 
@@ -35,15 +38,15 @@ pub fn judge(file: &[u8]) -> Reply {
     sizes(file)
 }
 
-// Where the body of a number starts, 0 where there is none.
-fn start_of(file: &[u8], number: usize) -> usize {
+// Where the body of a number starts, if there is one.
+fn start_of(file: &[u8], number: usize) -> Option<usize> {
     let Verdict::Accepted = contents::contents_verdict(file) else {
-        return 0;
+        return None;
     };
     if number == 0 || BODIES < number {
-        return 0;
+        return None;
     }
-    contents::body_start(file, number - 1)
+    Some(contents::body_start(file, number - 1))
 }
 
 // Where a part ends, if it is the stretch of a file from a place on.
@@ -57,7 +60,7 @@ fn stretch_end(file: &[u8], start: usize, part: &[u8]) -> Option<usize> {
 // The stretch of a body, beside which of refusals 1 and 2 applies.
 pub fn body(file: &[u8], number: usize) -> Reply {
     let verdict = contents::contents_verdict(file);
-    let start = start_of(file, number);
+    let start = start_of(file, number).unwrap_or(NO_START);
     let end = stretch_end(file, start, contents::body_asked(file, number));
     replies::judged_beside(verdict, start, end.unwrap_or(NO_STRETCH))
 }
