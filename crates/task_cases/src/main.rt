@@ -148,7 +148,7 @@ fn split_before(text: &[u8], byte: u8) -> (&[u8], &[u8])
     text.split_at(text.iter().position(|b| *b == byte).unwrap_or(text.len()))
 }
 
-// The value of a digit, 16 where it is none.
+// The value of a digit, 16 where it is none, which counts like the others in the byte that it is part of.
 fn digit(b: u8) -> usize
     ensures { result ≤ 16 }
 {
@@ -232,6 +232,7 @@ fn run(rt: &impl Print, text: &[u8], file: &mut [u8]) -> Result<()> {
 }
 
 fn main(rt: HostRuntime) {
+    // the kit's `io`: std reads an input of unknown length only into a `Vec`
     let mut input = io::large_buffer();
     let n = io::read_full(STDIN_FILENO, &mut input);
     let mut file = [0; ROOM];
