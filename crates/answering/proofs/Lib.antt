@@ -1,3 +1,2 @@
 -- Laws that the program's proofs cite.
 mod Laws
-mod Literals

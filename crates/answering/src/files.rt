@@ -12,7 +12,10 @@ use task::index::INDEX_LENGTH;
 
 const BODIES: usize = 4;
 
-// The end of a part that is not the stretch which it has to be: no answer holds it.
+// What an answer has in place of the start of a body that is not there.
+const NO_START: usize = 0;
+
+// What an answer has in place of the end of a part that is not the stretch which it has to be: no file is so long.
 const NO_STRETCH: usize = 18446744073709551615;
 
 // n and A of an accepted file.
@@ -35,44 +38,31 @@ pub fn judge(file: &[u8]) -> Reply {
     sizes(file)
 }
 
-// Where the body of a number starts, 0 where there is none.
-fn start_of(file: &[u8], number: usize) -> usize {
+// Where the body of a number starts, if there is one.
+fn start_of(file: &[u8], number: usize) -> Option<usize> {
     let Verdict::Accepted = contents::contents_verdict(file) else {
-        return 0;
+        return None;
     };
-    if number == 0 {
-        return 0;
+    if number == 0 || BODIES < number {
+        return None;
     }
-    if BODIES < number {
-        return 0;
-    }
-    contents::body_start(file, number - 1)
+    Some(contents::body_start(file, number - 1))
 }
 
-// Where a part ends that is the stretch of a file from a place on.
-fn stretch_end(file: &[u8], start: usize, part: &[u8]) -> usize {
-    if file.len() < start {
-        return NO_STRETCH;
+// Where a part ends, if it is the stretch of a file from a place on.
+fn stretch_end(file: &[u8], start: usize, part: &[u8]) -> Option<usize> {
+    if file.get(start..)?.starts_with(part) {
+        return Some(start + part.len());
     }
-    if file.len() - start < part.len() {
-        return NO_STRETCH;
-    }
-    let mut i = 0;
-    while i < part.len() {
-        if file[start + i] != part[i] {
-            return NO_STRETCH;
-        }
-        i += 1;
-    }
-    start + part.len()
+    None
 }
 
 // The stretch of a body, beside which of refusals 1 and 2 applies.
 pub fn body(file: &[u8], number: usize) -> Reply {
     let verdict = contents::contents_verdict(file);
-    let start = start_of(file, number);
+    let start = start_of(file, number).unwrap_or(NO_START);
     let end = stretch_end(file, start, contents::body_asked(file, number));
-    replies::judged_beside(verdict, start, end)
+    replies::judged_beside(verdict, start, end.unwrap_or(NO_STRETCH))
 }
 
 pub fn counts(file: &[u8], horizon: usize) -> Reply {

@@ -17,29 +17,23 @@ pub enum Kind {
     Walk,
 }
 
-// What a number names: one of these calls, or none of them, as a whole program.
-#[derive(Clone, Copy)]
-pub enum Named {
-    Call(Kind),
-    Nothing,
-}
-
-pub fn kind_of(number: usize) -> Named {
+// The call that a number names, if it is one of these and not a whole program.
+pub fn kind_of(number: usize) -> Option<Kind> {
     match number {
-        1 => Named::Call(Kind::Judge),
-        2 => Named::Call(Kind::Body),
-        3 => Named::Call(Kind::Counts),
-        4 => Named::Call(Kind::Clause),
-        5 => Named::Call(Kind::HeaderText),
-        6 => Named::Call(Kind::ClauseText),
-        7 => Named::Call(Kind::ManyLines),
-        8 => Named::Call(Kind::Start),
-        9 => Named::Call(Kind::Line),
-        10 => Named::Call(Kind::FoldLines),
-        11 => Named::Call(Kind::Output),
-        12 => Named::Call(Kind::End),
-        13 => Named::Call(Kind::WayBack),
-        14 => Named::Call(Kind::Walk),
-        _ => Named::Nothing,
+        1 => Some(Kind::Judge),
+        2 => Some(Kind::Body),
+        3 => Some(Kind::Counts),
+        4 => Some(Kind::Clause),
+        5 => Some(Kind::HeaderText),
+        6 => Some(Kind::ClauseText),
+        7 => Some(Kind::ManyLines),
+        8 => Some(Kind::Start),
+        9 => Some(Kind::Line),
+        10 => Some(Kind::FoldLines),
+        11 => Some(Kind::Output),
+        12 => Some(Kind::End),
+        13 => Some(Kind::WayBack),
+        14 => Some(Kind::Walk),
+        _ => None,
     }
 }

@@ -11,13 +11,10 @@ mod replies;
 mod stream;
 mod texts;
 
-use kinds::{Kind, Named};
+use kinds::Kind;
 use replies::Reply;
 use rules::Reading;
-use stream::Number;
-
-// Standard error, by its number.
-const STDERR_FILENO: i32 = 2;
+use std::io::Read;
 
 const FILE_BYTES: usize = 32768;
 
@@ -34,7 +31,14 @@ const ENTRIES: usize = 128;
 // The words of a row as bytes.
 const RAW_BYTES: usize = 131072;
 
-const MOST_TURNS: u64 = 18446744073709551615;
+const CUT_OFF: &str = "a case is cut off, or of a kind that is not answered here";
+
+const TOO_WIDE: &str = "a case is cut off, or wider than there is room for";
+
+const NOT_WRITTEN: &str = "the answers cannot be written";
+
+// Why the run stops: a complaint, or none where the stream is over.
+type Stop = Option<&'static str>;
 
 // The call that a case names, and its numbers.
 #[derive(Clone, Copy)]
@@ -45,73 +49,27 @@ struct Call {
     reading: Reading,
 }
 
-#[derive(Clone, Copy)]
-enum Next {
-    Case(Call),
-    Over,
-}
-
-fn complain(text: &[u8]) -> bool {
-    io::write_all(STDERR_FILENO, b"answering: ");
-    io::write_all(STDERR_FILENO, text);
-    io::write_all(STDERR_FILENO, b"\n");
-    false
-}
-
-fn complain_width() -> bool {
-    complain(b"a case is cut off, or wider than there is room for")
-}
-
-fn complain_writing() -> bool {
-    complain(b"the answers cannot be written")
-}
-
-// The run is over, with a line on standard error.
-fn broken() -> Next {
-    complain(b"a case is cut off, or of a kind that is not answered here");
-    Next::Over
-}
-
 // The numbers of a case behind its kind.
-fn read_call(kind: Kind) -> Next {
-    let Number::Is(horizon) = stream::read_number() else {
-        return broken();
-    };
-    let Number::Is(asked) = stream::read_number() else {
-        return broken();
-    };
-    let Number::Is(highest) = stream::read_number() else {
-        return broken();
-    };
-    let Number::Is(phase_number) = stream::read_number() else {
-        return broken();
-    };
-    let phase = replies::phase_of(phase_number);
-    let reading = Reading { highest, phase };
-    Next::Case(Call {
+fn read_call(input: &mut impl Read, kind: Kind) -> Option<Call> {
+    let horizon = stream::read_number(input)?;
+    let asked = stream::read_number(input)?;
+    let highest = stream::read_number(input)?;
+    let phase = replies::phase_of(stream::read_number(input)?);
+    Some(Call {
         kind,
         horizon,
         asked,
-        reading,
+        reading: Reading { highest, phase },
     })
 }
 
 // The next case's numbers; the stream may end before its kind.
-fn read_next() -> Next {
-    match stream::read_number() {
-        Number::Is(number) => {
-            let Named::Call(kind) = kinds::kind_of(number) else {
-                return broken();
-            };
-            read_call(kind)
-        }
-        Number::CutAfter(bytes) => {
-            if bytes == 0 {
-                return Next::Over;
-            }
-            broken()
-        }
-    }
+fn read_next(input: &mut impl Read) -> Result<Call, Stop> {
+    let Some(number) = stream::read_first(input).ok_or(Some(CUT_OFF))? else {
+        return Err(None);
+    };
+    let kind = kinds::kind_of(number).ok_or(Some(CUT_OFF))?;
+    read_call(input, kind).ok_or(Some(CUT_OFF))
 }
 
 // The call that a case names, on the memory that it lends.
@@ -150,29 +108,16 @@ fn reply(
 }
 
 // The four numbers of an answer.
-fn write_reply(reply: Reply) -> bool {
-    stream::write_number(reply.number)
-        && stream::write_number(reply.detail)
-        && stream::write_number(reply.first)
-        && stream::write_number(reply.second)
+fn write_reply(output: &impl Print, reply: Reply) -> Option<()> {
+    stream::write_number(output, reply.number)?;
+    stream::write_number(output, reply.detail)?;
+    stream::write_number(output, reply.first)?;
+    stream::write_number(output, reply.second)
 }
 
-fn write_rooms(room: &[u8], literals: &[i32], raw: &mut [u8]) -> bool {
-    stream::write_bytes(room) && stream::write_literals(raw, literals)
-}
-
-fn write_rows(given: &[u64], truth: &[u64], entries: &[u32], raw: &mut [u8]) -> bool {
-    if !stream::write_words(raw, given) {
-        return false;
-    }
-    if !stream::write_words(raw, truth) {
-        return false;
-    }
-    stream::write_entries(raw, entries)
-}
-
-// An answer: its numbers, all lent memory after the call, and no printed line.
+// An answer's numbers, and all lent memory after the call.
 fn write_answer(
+    output: &impl Print,
     reply: Reply,
     room: &[u8],
     literals: &[i32],
@@ -180,107 +125,19 @@ fn write_answer(
     truth: &[u64],
     entries: &[u32],
     raw: &mut [u8],
-) -> bool {
-    if !write_reply(reply) {
-        return complain_writing();
-    }
-    if !write_rooms(room, literals, raw) {
-        return complain_writing();
-    }
-    if !write_rows(given, truth, entries, raw) {
-        return complain_writing();
-    }
-    stream::write_number(0)
+) -> Option<()> {
+    write_reply(output, reply)?;
+    stream::write_bytes(output, room)?;
+    stream::write_items(output, raw, literals)?;
+    stream::write_items(output, raw, given)?;
+    stream::write_items(output, raw, truth)?;
+    stream::write_items(output, raw, entries)
 }
 
-// The call, and its answer.
-fn answer(
-    call: Call,
-    file: &[u8],
-    text: &[u8],
-    room: &mut [u8],
-    literals: &mut [i32],
-    given: &mut [u64],
-    truth: &mut [u64],
-    entries: &mut [u32],
-    raw: &mut [u8],
-) -> bool {
-    let reply = reply(call, file, text, room, literals, given, truth, entries);
-    write_answer(reply, room, literals, given, truth, entries, raw)
-}
-
-// Reads the rows and the schedule, and answers.
-fn with_rows(
-    call: Call,
-    file: &[u8],
-    text: &[u8],
-    room: &mut [u8],
-    literals: &mut [i32],
-    given: &mut [u64],
-    truth: &mut [u64],
-    entries: &mut [u32],
-    raw: &mut [u8],
-) -> bool {
-    let g = stream::read_words(raw, given);
-    if given.len() < g {
-        return complain_width();
-    }
-    let t = stream::read_words(raw, truth);
-    if truth.len() < t {
-        return complain_width();
-    }
-    let e = stream::read_entries(raw, entries);
-    if entries.len() < e {
-        return complain_width();
-    }
-    answer(
-        call,
-        file,
-        text,
-        room,
-        literals,
-        &mut given[..g],
-        &mut truth[..t],
-        &mut entries[..e],
-        raw,
-    )
-}
-
-// Reads the lent rooms for text and literals, and goes on.
-fn with_rooms(
-    call: Call,
-    file: &[u8],
-    text: &[u8],
-    room: &mut [u8],
-    literals: &mut [i32],
-    given: &mut [u64],
-    truth: &mut [u64],
-    entries: &mut [u32],
-    raw: &mut [u8],
-) -> bool {
-    let r = stream::read_bytes(room);
-    if room.len() < r {
-        return complain_width();
-    }
-    let l = stream::read_literals(raw, literals);
-    if literals.len() < l {
-        return complain_width();
-    }
-    with_rows(
-        call,
-        file,
-        text,
-        &mut room[..r],
-        &mut literals[..l],
-        given,
-        truth,
-        entries,
-        raw,
-    )
-}
-
-// One case; whether there may be another. Reads its numbers, the file and the text, and goes on.
+// One case: reads it, makes its call, and writes the answer.
 fn turn(
+    input: &mut impl Read,
+    output: &impl Print,
     file: &mut [u8],
     text: &mut [u8],
     room: &mut [u8],
@@ -289,32 +146,25 @@ fn turn(
     truth: &mut [u64],
     entries: &mut [u32],
     raw: &mut [u8],
-) -> bool {
-    let Next::Case(call) = read_next() else {
-        return false;
-    };
-    let f = stream::read_bytes(file);
-    if file.len() < f {
-        return complain_width();
-    }
-    let t = stream::read_bytes(text);
-    if text.len() < t {
-        return complain_width();
-    }
-    with_rooms(
-        call,
-        &file[..f],
-        &text[..t],
-        room,
-        literals,
-        given,
-        truth,
-        entries,
-        raw,
-    )
+) -> Result<(), Stop> {
+    let call = read_next(input)?;
+    let file = stream::read_bytes(input, file).ok_or(Some(TOO_WIDE))?;
+    let text = stream::read_bytes(input, text).ok_or(Some(TOO_WIDE))?;
+    let room = stream::read_bytes(input, room).ok_or(Some(TOO_WIDE))?;
+    let literals = stream::read_items(input, raw, literals).ok_or(Some(TOO_WIDE))?;
+    let given = stream::read_items(input, raw, given).ok_or(Some(TOO_WIDE))?;
+    let truth = stream::read_items(input, raw, truth).ok_or(Some(TOO_WIDE))?;
+    let entries = stream::read_items(input, raw, entries).ok_or(Some(TOO_WIDE))?;
+    let reply = reply(call, file, text, room, literals, given, truth, entries);
+    write_answer(output, reply, room, literals, given, truth, entries, raw).ok_or(Some(
+        NOT_WRITTEN,
+    ))?;
+    // no printed line
+    stream::write_number(output, 0).ok_or(None)
 }
 
-fn main() {
+fn main(rt: HostRuntime) {
+    let mut input = rt.stdin();
     let mut file = [0u8; FILE_BYTES];
     let mut text = [0u8; TEXT_BYTES];
     let mut room = [0u8; ROOM_BYTES];
@@ -323,10 +173,11 @@ fn main() {
     let mut truth = [0u64; ROW_WORDS];
     let mut entries = [0u32; ENTRIES];
     let mut raw = [0u8; RAW_BYTES];
-    // a count that falls: nothing says that standard input ends
-    let mut turns = MOST_TURNS;
-    while 0 < turns
-        && turn(
+    // nothing says that standard input ends
+    for _ in 0..u64::MAX {
+        let Err(stop) = turn(
+            &mut input,
+            &rt,
             &mut file,
             &mut text,
             &mut room,
@@ -335,8 +186,12 @@ fn main() {
             &mut truth,
             &mut entries,
             &mut raw,
-        )
-    {
-        turns -= 1;
+        ) else {
+            continue;
+        };
+        if let Some(complaint) = stop {
+            let _ = eprintln!(rt; "answering: {complaint}");
+        }
+        return;
     }
 }

@@ -1,8 +1,7 @@
 // Calls that begin a reading of solver output and carry it on.
-ghost use Rattle.std.specs.Prelude.{◌≤◌, ◌<◌, length};
-
 use crate::replies;
 use crate::replies::Reply;
+use lent_bytes::words::line_end;
 use output::feeding;
 use output::feeding::LINE_ROOM;
 use rules::{LineAnswer, Reading};
@@ -26,21 +25,6 @@ pub fn line(reading: Reading, given: &mut [u64], truth: &mut [u64], text: &[u8])
     reply(output::read_line(reading, given, truth, text))
 }
 
-// Where the line that begins at a place ends.
-fn line_end(text: &[u8], at: usize) -> usize
-    requires { at ≤ length text.now }
-    ensures { (at ≤ result) × (result ≤ length text.now) }
-{
-    let mut end = at;
-    while end < text.len() {
-        if text[end] == b'\n' {
-            return end;
-        }
-        end += 1;
-    }
-    end
-}
-
 // How many lines were taken, and the phase after them.
 fn folded(answer: LineAnswer, lines: usize, reading: Reading) -> Reply {
     let phase = reading.phase;
@@ -56,6 +40,7 @@ pub fn fold(first: Reading, given: &mut [u64], truth: &mut [u64], text: &[u8]) -
     let mut reading = first;
     let mut lines = 0;
     let mut at = 0;
+    // a `while`: what is read says where the next line begins
     while at < text.len() {
         let end = line_end(text, at);
         let answer = output::read_line(reading, given, truth, &text[at..end]);
@@ -69,20 +54,6 @@ pub fn fold(first: Reading, given: &mut [u64], truth: &mut [u64], text: &[u8]) -
     folded(LineAnswer::Next(reading), lines, reading)
 }
 
-// Where the piece that begins at a place ends.
-fn piece_end(at: usize, size: usize, end: usize) -> usize
-    requires { at < end }
-    ensures { (at < result) × (result ≤ end) }
-{
-    if size == 0 {
-        return end;
-    }
-    if end - at <= size {
-        return end;
-    }
-    at + size
-}
-
 // A whole output, fed in pieces of a size; 0 is all at once.
 pub fn output(
     reading: Reading,
@@ -93,11 +64,9 @@ pub fn output(
 ) -> Reply {
     let mut line = [0u8; LINE_ROOM];
     let mut state = feeding::begin(reading);
-    let mut at = 0;
-    while at < text.len() {
-        let end = piece_end(at, size, text.len());
-        state = feeding::take_bytes(state, given, truth, &mut line, &text[at..end]);
-        at = end;
+    let most = if size == 0 { usize::MAX } else { size };
+    for piece in text.chunks(most) {
+        state = feeding::take_bytes(state, given, truth, &mut line, piece);
     }
     reply(feeding::finish(state, given, truth, &line))
 }

@@ -6,6 +6,8 @@
 ghost use Rattle.std.specs.Prelude.{◌<◌, ◌≤◌};
 
 use rules::{Phase, Reading, Verdict};
+use showing::print_verdict;
+use std::io;
 
 const ALL: u64 = 18446744073709551615;
 
@@ -14,157 +16,144 @@ const TAKE_AND_RUN: u64 = 39317;
 
 const VARIABLES: usize = 16;
 
-fn print(n: u64) {
-    io::print_decimal(1, n);
-    io::write_all(1, b" ");
-}
-
-fn print_entry(entry: u32) {
-    print(entry as u64);
-}
-
-fn print_verdict(verdict: Verdict) {
-    let Verdict::Refused(why) = verdict else {
-        print(0);
-        print(0);
-        return;
-    };
-    print(refusals::number_of(why) as u64);
-    print(refusals::detail_of(why) as u64);
-}
-
-fn finish(file: &[u8], horizon: usize, phase: Phase, given: u64, truth: u64) {
+fn finish(
+    rt: &impl Print,
+    file: &[u8],
+    horizon: usize,
+    phase: Phase,
+    given: u64,
+    truth: u64,
+) -> io::Result<()> {
     let mut entries = [9u32; 4];
     let reading = Reading { highest: 0, phase };
     let verdict = checker::end::finish(file, horizon, reading, &[given], &[truth], &mut entries);
-    print_verdict(verdict);
-    print_entry(entries[0]);
-    print_entry(entries[1]);
-    print_entry(entries[2]);
-    print_entry(entries[3]);
-    io::write_all(1, b"\n");
+    print_verdict(rt, verdict)?;
+    for entry in &entries {
+        print!(rt; " {entry}")?;
+    }
+    println!(rt; " ")
 }
 
-// 1 for a model that is accepted, 0 for another.
-fn accepted(file: &[u8], horizon: usize, given: u64, truth: u64) -> u64
-    ensures { result ≤ 1 }
-{
+fn is_accepted(file: &[u8], horizon: usize, given: u64, truth: u64) -> bool {
     let mut entries = [9u32; 4];
     let reading = Reading {
         highest: 0,
         phase: Phase::ModelClosed,
     };
     let verdict = checker::end::finish(file, horizon, reading, &[given], &[truth], &mut entries);
-    match verdict {
-        Verdict::Accepted => 1,
-        Verdict::Refused(_) => 0,
-    }
+    matches!(verdict, Verdict::Accepted)
 }
 
 // How many of the first models, by their row, are accepted.
-fn count_accepted(file: &[u8], horizon: usize, models: u64) {
-    let mut count = 0;
-    let mut truth = 0;
-    while truth < models {
-        count += accepted(file, horizon, ALL, truth);
-        truth += 1;
-    }
-    print(count);
-    io::write_all(1, b"\n");
+fn count_accepted(rt: &impl Print, file: &[u8], horizon: usize, models: u64) -> io::Result<()> {
+    let count = (0..models)
+        .filter(|truth| is_accepted(file, horizon, ALL, *truth))
+        .count();
+    println!(rt; "{count} ")
 }
 
 // The same where a model may leave variables out: the first words of both rows, in all pairs.
-fn count_partial(file: &[u8], horizon: usize, words: u64, pairs: u64)
+fn count_partial(
+    rt: &impl Print,
+    file: &[u8],
+    horizon: usize,
+    words: u64,
+    pairs: u64,
+) -> io::Result<()>
     requires { 0 < words }
 {
-    let mut count = 0;
-    let mut pair = 0;
-    while pair < pairs {
-        count += accepted(file, horizon, pair / words, pair % words);
-        pair += 1;
-    }
-    print(count);
-    io::write_all(1, b"\n");
+    let count = (0..pairs)
+        .filter(|pair| is_accepted(file, horizon, *pair / words, *pair % words))
+        .count();
+    println!(rt; "{count} ")
 }
 
-fn model(file: &[u8], horizon: usize, truth: u64) {
-    finish(file, horizon, Phase::ModelClosed, ALL, truth);
+fn model(rt: &impl Print, file: &[u8], horizon: usize, truth: u64) -> io::Result<()> {
+    finish(rt, file, horizon, Phase::ModelClosed, ALL, truth)
 }
 
 // The model of P7 with each of its variables left out in turn: every one is the only true literal of some clause.
-fn leave_out_each(file: &[u8]) {
-    let mut place = 0;
-    while place < VARIABLES {
+fn leave_out_each(rt: &impl Print, file: &[u8]) -> io::Result<()> {
+    for place in 0..VARIABLES {
         finish(
+            rt,
             file,
             2,
             Phase::ModelClosed,
             ALL ^ (1u64 << place),
             TAKE_AND_RUN,
-        );
-        place += 1;
+        )?;
     }
+    Ok(())
 }
 
-fn run(file: &[u8]) {
+fn run(rt: &impl Print, file: &[u8]) -> io::Result<()> {
     // P7, and P8's four: (0,1,2) (1,0,2) (1,2,0) (1,2,1)
-    model(file, 2, TAKE_AND_RUN);
-    model(file, 3, 2516293);
-    model(file, 3, 2515349);
-    model(file, 3, 2398613);
-    model(file, 3, 2726293);
+    model(rt, file, 2, TAKE_AND_RUN)?;
+    model(rt, file, 3, 2516293)?;
+    model(rt, file, 3, 2515349)?;
+    model(rt, file, 3, 2398613)?;
+    model(rt, file, 3, 2726293)?;
     // P6: at horizon 1 run is carried out, but nothing was taken; at horizon 0 the goal is unmet
-    model(file, 1, 613);
-    model(file, 0, 5);
+    model(rt, file, 1, 613)?;
+    model(rt, file, 0, 5)?;
     // of all models at a horizon: none at 1, one at 2
-    count_accepted(file, 1, 1024);
-    count_accepted(file, 2, 65536);
+    count_accepted(rt, file, 1, 1024)?;
+    count_accepted(rt, file, 2, 65536)?;
     // P12: 16 is false; then one clause of each other family is: 1 2 3 4 5 6 7
-    model(file, 2, 6549);
-    model(file, 2, 39316);
-    model(file, 2, 39189);
-    model(file, 2, 39381);
-    model(file, 2, 39349);
-    model(file, 2, 43413);
-    model(file, 2, 37253);
-    leave_out_each(file);
+    model(rt, file, 2, 6549)?;
+    model(rt, file, 2, 39316)?;
+    model(rt, file, 2, 39189)?;
+    model(rt, file, 2, 39381)?;
+    model(rt, file, 2, 39349)?;
+    model(rt, file, 2, 43413)?;
+    model(rt, file, 2, 37253)?;
+    leave_out_each(rt, file)?;
     // the other ends; no room; a horizon that is too high; no file
-    finish(file, 2, Phase::NoStatus, ALL, TAKE_AND_RUN);
-    finish(file, 2, Phase::ModelOpen, ALL, TAKE_AND_RUN);
-    finish(file, 2, Phase::SaidUnsatisfiable, ALL, TAKE_AND_RUN);
-    finish(file, 2, Phase::SaidUnknown, ALL, TAKE_AND_RUN);
-    model(file, 5, 0);
-    model(file, 11, 0);
-    model(file, 65, 0);
-    finish(b"", 2, Phase::ModelClosed, ALL, TAKE_AND_RUN);
+    finish(rt, file, 2, Phase::NoStatus, ALL, TAKE_AND_RUN)?;
+    finish(rt, file, 2, Phase::ModelOpen, ALL, TAKE_AND_RUN)?;
+    finish(rt, file, 2, Phase::SaidUnsatisfiable, ALL, TAKE_AND_RUN)?;
+    finish(rt, file, 2, Phase::SaidUnknown, ALL, TAKE_AND_RUN)?;
+    model(rt, file, 5, 0)?;
+    model(rt, file, 11, 0)?;
+    model(rt, file, 65, 0)?;
+    finish(rt, b"", 2, Phase::ModelClosed, ALL, TAKE_AND_RUN)
 }
 
 // Family 8: two actions with no pairs. Both true; both named false, one of them left out, then both; and how many there are in all.
-fn idle_actions(file: &[u8]) {
-    model(file, 1, 15);
-    model(file, 1, 9);
-    finish(file, 1, Phase::ModelClosed, 13, 9);
-    finish(file, 1, Phase::ModelClosed, 9, 9);
-    count_partial(file, 1, 16, 256);
+fn idle_actions(rt: &impl Print, file: &[u8]) -> io::Result<()> {
+    model(rt, file, 1, 15)?;
+    model(rt, file, 1, 9)?;
+    finish(rt, file, 1, Phase::ModelClosed, 13, 9)?;
+    finish(rt, file, 1, Phase::ModelClosed, 9, 9)?;
+    count_partial(rt, file, 1, 16, 256)
 }
 
 // An action that changes nothing. It is true; it is left out, and its true bit counts for nothing; a value is left out; and how many there are in all.
-fn still_action(file: &[u8]) {
-    model(file, 1, 13);
-    finish(file, 1, Phase::ModelClosed, 27, 9);
-    finish(file, 1, Phase::ModelClosed, 27, 13);
-    finish(file, 1, Phase::ModelClosed, 25, 9);
-    count_partial(file, 1, 32, 1024);
+fn still_action(rt: &impl Print, file: &[u8]) -> io::Result<()> {
+    model(rt, file, 1, 13)?;
+    finish(rt, file, 1, Phase::ModelClosed, 27, 9)?;
+    finish(rt, file, 1, Phase::ModelClosed, 27, 13)?;
+    finish(rt, file, 1, Phase::ModelClosed, 25, 9)?;
+    count_partial(rt, file, 1, 32, 1024)
 }
 
-fn main() {
+fn run_all(rt: &impl Print) -> io::Result<()> {
     run(
+        rt,
         b"\x10\x00\x02\x00\x12\x00\x02\x00\x14\x00\x02\x00\x16\x00\x10\x00\x02\x02\x00\x00\x01\x01\x01\x01\x00\x00\x00\x01\x02\x02\x00\x01\x01\x00\x00\x00\x01\x01",
-    );
+    )?;
     idle_actions(
+        rt,
         b"\x10\x00\x01\x00\x11\x00\x01\x00\x12\x00\x00\x00\x12\x00\x04\x00\x01\x00\x00\x00\x00\x00",
-    );
+    )?;
     still_action(
+        rt,
         b"\x10\x00\x01\x00\x11\x00\x01\x00\x12\x00\x02\x00\x14\x00\x06\x00\x02\x00\x00\x00\x01\x01\x00\x00\x00\x00",
-    );
+    )
+}
+
+fn main(rt: HostRuntime) {
+    // a line that cannot be written ends the run
+    let _ = run_all(&rt);
 }

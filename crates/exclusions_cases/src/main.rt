@@ -6,40 +6,48 @@ ghost use Rattle.std.specs.Prelude.{suc, ◌+◌, ◌≤◌, ◌<◌, length};
 ghost use Rattle.rules.specs.Limits.{max_n};
 ghost use Rattle.rules.specs.Counts.{pairs_below, number_of_pair};
 
+use std::io;
+
 const MARK: u8 = b'.';
 
 const MARKS: usize = 2;
 
 const ROOM: usize = 2048;
 
-fn print_lines(out: &mut [u8], base: usize, count: usize, first: usize, second: usize, lines: usize)
-    requires { (first < second) × (second < count) × (number_of_pair count first second + lines ≤ pairs_below count) × (base + count ≤ suc max_n) × (lines ≤ 100) × (2048 ≤ length out.old) }
-{
-    let end = exclusions::put_exclusions(out, MARKS, base, count, first, second, lines);
-    io::write_all(1, &out[..end + MARKS]);
-    io::write_all(1, b"\n");
-}
-
-fn show(base: usize, count: usize, first: usize, second: usize, lines: usize)
+fn show(
+    rt: &impl Print,
+    base: usize,
+    count: usize,
+    first: usize,
+    second: usize,
+    lines: usize,
+) -> io::Result<()>
     requires { (first < second) × (second < count) × (number_of_pair count first second + lines ≤ pairs_below count) × (base + count ≤ suc max_n) × (lines ≤ 100) }
 {
     let mut out = [MARK; ROOM];
-    print_lines(&mut out, base, count, first, second, lines);
+    let end = exclusions::put_exclusions(&mut out, MARKS, base, count, first, second, lines);
+    rt.write_all(&out[..end + MARKS])?;
+    rt.write_all(b"\n")
 }
 
-fn main() {
+fn run(rt: &impl Print) -> io::Result<()> {
     // 1 to 5; 15 to 22
-    show(1, 5, 0, 1, 10);
-    show(15, 8, 0, 1, 28);
+    show(rt, 1, 5, 0, 1, 10)?;
+    show(rt, 15, 8, 0, 1, 28)?;
     // 97 to 103, 997 to 1003 and 9994 to 10006
-    show(97, 7, 0, 1, 21);
-    show(997, 7, 0, 1, 21);
-    show(9994, 13, 0, 1, 78);
+    show(rt, 97, 7, 0, 1, 21)?;
+    show(rt, 997, 7, 0, 1, 21)?;
+    show(rt, 9994, 13, 0, 1, 78)?;
     // five digits, from the middle of a row to the middle of another; a row to its end; the end of the last row
-    show(19995, 16, 3, 12, 30);
-    show(19995, 16, 3, 5, 11);
-    show(19995, 16, 13, 15, 2);
+    show(rt, 19995, 16, 3, 12, 30)?;
+    show(rt, 19995, 16, 3, 5, 11)?;
+    show(rt, 19995, 16, 13, 15, 2)?;
     // the greatest two numbers; no line
-    show(99327, 2, 0, 1, 1);
-    show(99327, 2, 0, 1, 0);
+    show(rt, 99327, 2, 0, 1, 1)?;
+    show(rt, 99327, 2, 0, 1, 0)
+}
+
+fn main(rt: HostRuntime) {
+    // a line that cannot be written ends the run
+    let _ = run(&rt);
 }

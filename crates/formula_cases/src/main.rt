@@ -7,6 +7,7 @@ ghost use Rattle.std.specs.Prelude.{◌≤◌, length};
 
 use formula::calls::{CountsAnswer, LiteralsAnswer};
 use rules::Refusal;
+use std::io;
 
 const FOLDER: [u8; 38] = [
     0x10, 0x00, 0x02, 0x00, 0x12, 0x00, 0x02, 0x00, 0x14, 0x00, 0x02, 0x00, 0x16, 0x00, 0x10, 0x00,
@@ -18,138 +19,107 @@ const ROOM: usize = 6;
 
 const AS_LENT: i32 = 99;
 
-// The numbers that are shown; the first is minus the highest.
-const HIGHEST: usize = 22;
+// The highest number that is shown, and minus it the lowest.
+const HIGHEST: i32 = 22;
 
-const NUMBERS: [i32; 45] = [
-    -22, -21, -20, -19, -18, -17, -16, -15, -14, -13, -12, -11, -10, -9, -8, -7, -6, -5, -4, -3,
-    -2, -1, 0, 1, 2, 3, 4, 5, 6, 7, 8, 9, 10, 11, 12, 13, 14, 15, 16, 17, 18, 19, 20, 21, 22,
-];
-
-// The place of a number among them, 45 where it has none.
-fn place_of(literal: i32) -> usize {
-    let mut i = 0;
-    while i < 45 {
-        if NUMBERS[i] == literal {
-            return i;
-        }
-        i += 1;
-    }
-    i
-}
-
-fn print_literal(literal: i32) {
+fn print_literal(rt: &impl Print, literal: i32) -> io::Result<()> {
     if literal == AS_LENT {
-        io::write_all(1, b" ?");
-        return;
+        return print!(rt; " ?");
     }
-    let i = place_of(literal);
-    if 45 <= i {
-        io::write_all(1, b" beyond");
-        return;
+    if literal < -HIGHEST || HIGHEST < literal {
+        return print!(rt; " beyond");
     }
-    if i < HIGHEST {
-        io::write_all(1, b" -");
-        io::print_decimal(1, (HIGHEST - i) as u64);
-        return;
-    }
-    io::write_all(1, b" ");
-    io::print_decimal(1, (i - HIGHEST) as u64);
+    print!(rt; " {literal}")
 }
 
-fn print_refusal(why: Refusal) {
-    io::write_all(1, b"refused ");
-    io::print_decimal(1, refusals::number_of(why) as u64);
+fn print_refusal(rt: &impl Print, why: Refusal) -> io::Result<()> {
+    print!(rt; "refused {}", refusals::number_of(why))
 }
 
-fn print_words(words: &[i32]) {
-    let mut i = 0;
-    while i < words.len() {
-        print_literal(words[i]);
-        i += 1;
+fn print_words(rt: &impl Print, words: &[i32]) -> io::Result<()> {
+    for word in words {
+        print_literal(rt, *word)?;
     }
-    end_line();
+    println!(rt; "")
 }
 
-fn end_line() {
-    io::write_all(1, b"\n");
-}
-
-fn print_answer(answer: LiteralsAnswer) {
+fn print_answer(rt: &impl Print, answer: LiteralsAnswer) -> io::Result<()> {
     match answer {
-        LiteralsAnswer::Count(count) => {
-            io::print_decimal(1, count as u64);
-            io::write_all(1, b" literals:");
-        }
+        LiteralsAnswer::Count(count) => print!(rt; "{count} literals:"),
         LiteralsAnswer::Refused(why) => {
-            print_refusal(why);
-            io::write_all(1, b":");
+            print_refusal(rt, why)?;
+            print!(rt; ":")
         }
     }
 }
 
 // Clause c, with so many words lent.
-fn print_words_of(file: &[u8], horizon: usize, c: usize, room: usize, out: &mut [i32])
-    requires { room ≤ length out.old }
-{
-    print_answer(formula::calls::literals(file, horizon, c, &mut out[..room]));
-    print_words(out);
-}
-
-fn print_clause(file: &[u8], horizon: usize, c: usize, room: usize)
+fn print_clause(
+    rt: &impl Print,
+    file: &[u8],
+    horizon: usize,
+    c: usize,
+    room: usize,
+) -> io::Result<()>
     requires { room ≤ 6 }
 {
     let mut out = [AS_LENT; ROOM];
-    print_words_of(file, horizon, c, room, &mut out);
+    print_answer(
+        rt,
+        formula::calls::literals(file, horizon, c, &mut out[..room]),
+    )?;
+    print_words(rt, &out)
 }
 
 // N and C.
-fn print_counts(file: &[u8], horizon: usize) {
+fn print_counts(rt: &impl Print, file: &[u8], horizon: usize) -> io::Result<()> {
     match formula::calls::counts(file, horizon) {
         CountsAnswer::Found { variables, clauses } => {
-            io::print_decimal(1, variables as u64);
-            io::write_all(1, b" variables, ");
-            io::print_decimal(1, clauses as u64);
-            io::write_all(1, b" clauses\n");
+            println!(rt; "{variables} variables, {clauses} clauses")
         }
         CountsAnswer::Refused(why) => {
-            print_refusal(why);
-            io::write_all(1, b"\n");
+            print_refusal(rt, why)?;
+            println!(rt; "")
         }
     }
 }
 
 // The counts and so many clauses.
-fn print_formula(file: &[u8], horizon: usize, clauses: usize) {
-    print_counts(file, horizon);
-    let mut c = 0;
-    while c < clauses {
-        print_clause(file, horizon, c, ROOM);
-        c += 1;
+fn print_formula(rt: &impl Print, file: &[u8], horizon: usize, clauses: usize) -> io::Result<()> {
+    print_counts(rt, file, horizon)?;
+    for c in 0..clauses {
+        print_clause(rt, file, horizon, c, ROOM)?;
     }
+    Ok(())
 }
 
-fn main() {
-    let folder = FOLDER;
+fn run(rt: &impl Print, folder: &[u8]) -> io::Result<()>
+    requires { 37 ≤ length folder.now }
+{
     // one clause more than there are
-    print_formula(&folder, 0, 8);
-    print_formula(&folder, 1, 23);
-    print_formula(&folder, 2, 38);
-    print_formula(&folder, 3, 53);
+    print_formula(rt, folder, 0, 8)?;
+    print_formula(rt, folder, 1, 23)?;
+    print_formula(rt, folder, 2, 38)?;
+    print_formula(rt, folder, 3, 53)?;
     // the last clause and the one behind it
-    print_counts(&folder, 64);
-    print_clause(&folder, 64, 966, ROOM);
-    print_clause(&folder, 64, 967, ROOM);
-    print_counts(&folder, 65);
-    print_clause(&folder, 65, 0, ROOM);
+    print_counts(rt, folder, 64)?;
+    print_clause(rt, folder, 64, 966, ROOM)?;
+    print_clause(rt, folder, 64, 967, ROOM)?;
+    print_counts(rt, folder, 65)?;
+    print_clause(rt, folder, 65, 0, ROOM)?;
     // a clause of three literals, and less and less room; the number comes before the room
-    print_clause(&folder, 1, 17, 3);
-    print_clause(&folder, 1, 17, 2);
-    print_clause(&folder, 1, 17, 0);
-    print_clause(&folder, 1, 22, 0);
+    print_clause(rt, folder, 1, 17, 3)?;
+    print_clause(rt, folder, 1, 17, 2)?;
+    print_clause(rt, folder, 1, 17, 0)?;
+    print_clause(rt, folder, 1, 22, 0)?;
     // a file that is refused comes before all
-    print_counts(b"", 65);
-    print_clause(b"", 65, 99, 0);
-    print_counts(&folder[..37], 1);
-    print_clause(&folder[..37], 1, 99, 0);
+    print_counts(rt, b"", 65)?;
+    print_clause(rt, b"", 65, 99, 0)?;
+    print_counts(rt, &folder[..37], 1)?;
+    print_clause(rt, &folder[..37], 1, 99, 0)
+}
+
+fn main(rt: HostRuntime) {
+    // a line that cannot be written ends the run
+    let _ = run(&rt, &FOLDER);
 }

@@ -4,108 +4,76 @@
 
 ghost use Rattle.std.specs.Prelude.{◌≤◌};
 
-use rules::{LineAnswer, Phase};
-
-// Standard output, by its number.
-const STDOUT_FILENO: i32 = 1;
+use rules::LineAnswer;
+use showing::{name_of, print_refusal, print_row};
+use std::io;
 
 const ROW_WORDS: usize = 8;
 
 // A horizon that would be 1 if it were cut to 32 bits or fewer.
 const WIDE: usize = 4294967297;
 
-fn print(text: &[u8]) {
-    io::write_all(STDOUT_FILENO, text);
-}
-
-fn print_number(n: u64) {
-    print(b" ");
-    io::print_decimal(STDOUT_FILENO, n);
-}
-
-fn print_phase(phase: Phase) {
-    match phase {
-        Phase::NoStatus => print(b" no-status"),
-        Phase::ModelOpen => print(b" open"),
-        Phase::ModelClosed => print(b" closed"),
-        Phase::SaidUnsatisfiable => print(b" unsatisfiable"),
-        Phase::SaidUnknown => print(b" unknown"),
-    }
-}
-
-fn print_answer(answer: LineAnswer) {
+fn print_answer(rt: &impl Print, answer: LineAnswer) -> io::Result<()> {
     match answer {
         LineAnswer::Next(reading) => {
             let phase = reading.phase;
-            print(b" : next");
-            print_number(reading.highest as u64);
-            print_phase(phase);
+            print!(rt; " : next {} {}", reading.highest, name_of(phase))
         }
         LineAnswer::Refused(why) => {
-            print(b" : refused");
-            print_number(refusals::number_of(why) as u64);
-            print_number(refusals::detail_of(why) as u64);
+            print!(rt; " : refused ")?;
+            print_refusal(rt, why)
         }
-    }
-}
-
-fn print_row(row: &[u64]) {
-    print(b" :");
-    let mut i = 0;
-    while i < row.len() {
-        print_number(row[i]);
-        i += 1;
     }
 }
 
 // Both rows are lent with so many words.
-fn begin(file: &[u8], horizon: usize, given: usize, truth: usize)
+fn begin(rt: &impl Print, file: &[u8], horizon: usize, given: usize, truth: usize) -> io::Result<()>
     requires { (given ≤ 8) × (truth ≤ 8) }
 {
     let mut given_row = [7u64; ROW_WORDS];
     let mut truth_row = [7u64; ROW_WORDS];
-    print(b"k");
-    print_number(horizon as u64);
-    print(b" :");
-    print_number(given as u64);
-    print_number(truth as u64);
-    print_answer(opening::start(
+    print!(rt; "k {horizon} : {given} {truth}")?;
+    let answer = opening::start(
         file,
         horizon,
         &mut given_row[..given],
         &mut truth_row[..truth],
-    ));
-    print_row(&given_row);
-    print_row(&truth_row);
-    print(b"\n");
+    );
+    print_answer(rt, answer)?;
+    print_row(rt, &given_row)?;
+    print_row(rt, &truth_row)?;
+    println!(rt; "")
 }
 
-fn run(file: &[u8]) {
+fn run(rt: &impl Print, file: &[u8]) -> io::Result<()> {
     // one word is needed: as many, one too few in either row, and more
-    begin(file, 1, 1, 1);
-    begin(file, 1, 0, 1);
-    begin(file, 1, 1, 0);
-    begin(file, 1, 2, 8);
-    begin(file, 0, 1, 1);
+    begin(rt, file, 1, 1, 1)?;
+    begin(rt, file, 1, 0, 1)?;
+    begin(rt, file, 1, 1, 0)?;
+    begin(rt, file, 1, 2, 8)?;
+    begin(rt, file, 0, 1, 1)?;
     // 64 variables, and 70
-    begin(file, 10, 1, 1);
-    begin(file, 11, 2, 1);
-    begin(file, 11, 2, 2);
+    begin(rt, file, 10, 1, 1)?;
+    begin(rt, file, 11, 2, 1)?;
+    begin(rt, file, 11, 2, 2)?;
     // the last horizon, and more; the horizon comes before the room
-    begin(file, 64, 7, 8);
-    begin(file, 64, 7, 6);
-    begin(file, 65, 8, 8);
-    begin(file, 65, 0, 0);
-    begin(file, WIDE, 8, 8);
+    begin(rt, file, 64, 7, 8)?;
+    begin(rt, file, 64, 7, 6)?;
+    begin(rt, file, 65, 8, 8)?;
+    begin(rt, file, 65, 0, 0)?;
+    begin(rt, file, WIDE, 8, 8)?;
     // a file that is refused comes first
-    begin(b"", 65, 0, 0);
+    begin(rt, b"", 65, 0, 0)?;
     if 37 <= file.len() {
-        begin(&file[..37], 1, 8, 8);
+        begin(rt, &file[..37], 1, 8, 8)?;
     }
+    Ok(())
 }
 
-fn main() {
-    run(
+fn main(rt: HostRuntime) {
+    // a line that cannot be written ends the run
+    let _ = run(
+        &rt,
         b"\x10\x00\x02\x00\x12\x00\x02\x00\x14\x00\x02\x00\x16\x00\x10\x00\x02\x02\x00\x00\x01\x01\x01\x01\x00\x00\x00\x01\x02\x02\x00\x01\x01\x00\x00\x00\x01\x01",
     );
 }

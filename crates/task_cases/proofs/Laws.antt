@@ -1,18 +1,13 @@
 -- What the program knows of an accepted file.
 -- Assumes nothing.
-use mathlib.Core.Path.{◌≡◌, sym, ◌∙◌}
+use mathlib.Core.Path.{◌≡◌}
 use mathlib.Core.List.{List}
 use Prim.Native.Nat.{ℕ, ◌≤◌, ◌<◌}
-use native.Mathlib.Omega.{arith}
-use lib.ListN.{length, take}
-use lib.Seq.{length-take-le}
 use Rattle.rules.specs.Limits.{max_actions}
 use Rattle.rules.specs.Task.{n, d, A, start_value}
-use Rattle.rules.specs.File.{task_of, file_verdict}
-use Rattle.rules.specs.declared.Verdict.{Verdict}
-use Rattle.rules.specs.declared.Verdict.TheVariants.{Accepted}
+use Rattle.rules.specs.File.{task_of}
 use Rattle.rules.proofs.Files.{accepted_well_formed}
-use Rattle.task.specs.Index.{index_of, Indexed}
+use Rattle.task.specs.Index.{Indexed}
 
 module _ (file index : List ℕ) (ix : Indexed file index) where
   pub variable_inside : (x y : ℕ) → y ≡ x → x < n (task_of file) → y < n (task_of file)
@@ -23,13 +18,3 @@ module _ (file index : List ℕ) (ix : Indexed file index) where
 
   pub actions_few : (a : ℕ) → a ≡ A (task_of file) → a ≤ max_actions
   actions_few a e = rw e (accepted_well_formed file ix.accepted).actions_few
-
-module _ (file : List ℕ) (v : Verdict) (e : v ≡ file_verdict file) (f : v ≡ Accepted) where
-  pub accepted : file_verdict file ≡ Accepted
-  accepted = sym e ∙ f
-
-  pub indexed : (index : List ℕ) → index ≡ index_of file → Indexed file index
-  indexed index h = record { accepted = accepted; filled = h }
-
-pub front : (l : List ℕ) (k m : ℕ) → k ≤ m → length l ≡ m → k ≡ length (take k l)
-front l k m h e = sym (length-take-le k l (omega arith))

@@ -11,8 +11,13 @@ ghost use Rattle.rules.specs.declared.Verdict.TheVariants.{Accepted};
 ghost use Rattle.task.specs.Index.{Indexed};
 
 use rules::Verdict;
+use showing::print_verdict;
+use std::io::Result;
 use task::index::INDEX_LENGTH;
 use task::numbering::{ActionNumber, ValuePlace};
+
+// Standard input, by its number.
+const STDIN_FILENO: i32 = 0;
 
 // Room for a file that is too long.
 const ROOM: usize = 20000;
@@ -20,240 +25,161 @@ const ROOM: usize = 20000;
 // The most actions that are shown.
 const SHOWN: usize = 3;
 
-fn wide(b: u8) -> usize
-    ensures { result < 256 }
-{
-    b as usize
-}
-
-fn print(text: &[u8], n: usize) {
-    io::write_all(1, text);
-    io::print_decimal(1, n as u64);
-}
+const BODIES: usize = 6;
 
 // ---- answers
 
-fn print_verdict(text: &[u8], verdict: Verdict) {
-    match verdict {
-        Verdict::Accepted => {
-            print(text, 0);
-            print(b" ", 0);
-        }
-        Verdict::Refused(why) => {
-            print(text, refusals::number_of(why));
-            print(b" ", refusals::detail_of(why));
-        }
+fn print_bodies(rt: &impl Print, file: &[u8]) -> Result<()> {
+    print!(rt; "; bodies")?;
+    for b in 0..BODIES {
+        print!(rt; " {}", task::contents::body_asked(file, b).len())?;
     }
-}
-
-fn print_body(file: &[u8], b: usize) {
-    print(b" ", task::contents::body_asked(file, b).len());
-}
-
-fn print_bodies(file: &[u8]) {
-    io::write_all(1, b"; bodies");
-    let mut b = 0;
-    while b < 6 {
-        print_body(file, b);
-        b += 1;
-    }
+    Ok(())
 }
 
 // ---- an accepted file
 
-fn print_place(place: ValuePlace) {
-    print(b" ", task::numbering::variable_of(place));
-    print(b"=", task::numbering::value_of(place));
+fn print_place(rt: &impl Print, place: ValuePlace) -> Result<()> {
+    print!(rt;
+        " {}={}",
+        task::numbering::variable_of(place),
+        task::numbering::value_of(place)
+    )
 }
 
-fn print_start_value(file: &[u8], index: &[u16], x: usize)
+fn print_start_value(rt: &impl Print, file: &[u8], index: &[u16], x: usize) -> Result<()>
     requires { Indexed file.now index.now × (x < n (task_of file.now)) }
 {
     let place = task::numbering::value_place(x, task::asked::start_value(file, x));
-    print_place(place);
-    print(
-        b" as ",
-        task::numbering::number_of(task::numbering::value_number(file, index, 0, place)),
-    );
+    print_place(rt, place)?;
+    let number = task::numbering::value_number(file, index, 0, place);
+    print!(rt; " as {}", task::numbering::number_of(number))
 }
 
-fn print_start(file: &[u8], index: &[u16])
+fn print_start(rt: &impl Print, file: &[u8], index: &[u16]) -> Result<()>
     requires { Indexed file.now index.now }
 {
-    io::write_all(1, b"; start");
-    let variables = task::asked::variables(file);
-    let mut x = 0;
-    while x < variables {
-        print_start_value(file, index, x);
-        x += 1;
+    print!(rt; "; start")?;
+    for x in 0..task::asked::variables(file) {
+        print_start_value(rt, file, index, x)?;
     }
+    Ok(())
 }
 
-fn print_goal(file: &[u8])
+fn print_goal(rt: &impl Print, file: &[u8]) -> Result<()>
     requires { file_verdict file.now ≡ Accepted }
 {
-    io::write_all(1, b"; goal");
-    let goals = task::asked::goals(file);
-    let mut i = 0;
-    while i < goals {
-        print_place(task::asked::goal_pair(file, i));
-        i += 1;
+    print!(rt; "; goal")?;
+    for i in 0..task::asked::goals(file) {
+        print_place(rt, task::asked::goal_pair(file, i))?;
     }
+    Ok(())
 }
 
-fn print_preconditions(file: &[u8], index: &[u16], a: ActionNumber)
+fn print_preconditions(rt: &impl Print, file: &[u8], index: &[u16], a: ActionNumber) -> Result<()>
     requires { Indexed file.now index.now × (a.0 < actionCount (task_of file.now)) }
 {
-    io::write_all(1, b" needs");
-    let count = task::asked::precondition_count(file, index, a);
-    let mut i = 0;
-    while i < count {
-        print_place(task::asked::precondition(file, index, a, i));
-        i += 1;
+    print!(rt; " needs")?;
+    for i in 0..task::asked::precondition_count(file, index, a) {
+        print_place(rt, task::asked::precondition(file, index, a, i))?;
     }
+    Ok(())
 }
 
-fn print_effects(file: &[u8], index: &[u16], a: ActionNumber)
+fn print_effects(rt: &impl Print, file: &[u8], index: &[u16], a: ActionNumber) -> Result<()>
     requires { Indexed file.now index.now × (a.0 < actionCount (task_of file.now)) }
 {
-    io::write_all(1, b" sets");
-    let count = task::asked::effect_count(file, index, a);
-    let mut i = 0;
-    while i < count {
-        print_place(task::asked::effect(file, index, a, i));
-        i += 1;
+    print!(rt; " sets")?;
+    for i in 0..task::asked::effect_count(file, index, a) {
+        print_place(rt, task::asked::effect(file, index, a, i))?;
     }
+    Ok(())
 }
 
-fn print_action(file: &[u8], index: &[u16], a: usize)
+fn print_action(rt: &impl Print, file: &[u8], index: &[u16], a: usize) -> Result<()>
     requires { Indexed file.now index.now × (a < actionCount (task_of file.now)) }
 {
     let action = task::numbering::nth_action(a);
-    print(
-        b"; ",
-        task::numbering::number_of(task::numbering::action_number(file, index, 0, action)),
-    );
-    print_preconditions(file, index, action);
-    print_effects(file, index, action);
+    let number = task::numbering::action_number(file, index, 0, action);
+    print!(rt; "; {}", task::numbering::number_of(number))?;
+    print_preconditions(rt, file, index, action)?;
+    print_effects(rt, file, index, action)
 }
 
-fn print_actions(file: &[u8], index: &[u16])
+fn print_task(rt: &impl Print, file: &[u8], index: &[u16]) -> Result<()>
     requires { Indexed file.now index.now }
 {
+    let variables = task::asked::variables(file);
+    let values = task::index::values(file, index);
     let actions = task::index::actions(file, index);
-    let mut a = 0;
-    while a < actions {
-        if a == SHOWN {
-            return;
-        }
-        print_action(file, index, a);
-        a += 1;
+    let goals = task::asked::goals(file);
+    print!(rt; "; n {variables}, S {values}, A {actions}, goal pairs {goals}")?;
+    print_start(rt, file, index)?;
+    print_goal(rt, file)?;
+    for a in 0..actions.min(SHOWN) {
+        print_action(rt, file, index, a)?;
     }
+    let preconditions = task::index::preconditions_before(file, index, actions);
+    let effects = task::index::effects_before(file, index, actions);
+    print!(rt; "; all preconditions {preconditions}, effects {effects}")
 }
 
-fn print_task(file: &[u8], index: &[u16])
-    requires { Indexed file.now index.now }
-{
-    let actions = task::index::actions(file, index);
-    print(b"; n ", task::asked::variables(file));
-    print(b", S ", task::index::values(file, index));
-    print(b", A ", actions);
-    print(b", goal pairs ", task::asked::goals(file));
-    print_start(file, index);
-    print_goal(file);
-    print_actions(file, index);
-    print(
-        b"; all preconditions ",
-        task::index::preconditions_before(file, index, actions),
-    );
-    print(
-        b", effects ",
-        task::index::effects_before(file, index, actions),
-    );
-}
-
-fn print_answers(file: &[u8]) {
-    print_verdict(b" contents ", task::contents::contents_verdict(file));
+fn print_answers(rt: &impl Print, file: &[u8]) -> Result<()> {
+    print!(rt; " contents ")?;
+    print_verdict(rt, task::contents::contents_verdict(file))?;
+    print!(rt; ", file ")?;
     let verdict = task::file::file_verdict(file);
-    print_verdict(b", file ", verdict);
-    print_bodies(file);
+    print_verdict(rt, verdict)?;
+    print_bodies(rt, file)?;
     let Verdict::Accepted = verdict else {
-        return;
+        return Ok(());
     };
     let mut index = [0u16; INDEX_LENGTH];
     task::filling::fill_index(file, &mut index);
-    print_task(file, &index);
+    print_task(rt, file, &index)
 }
 
 // ---- the lines
 
-// The place of a byte at or behind a place, or the end.
-fn place_of(text: &[u8], from: usize, byte: u8) -> usize
-    requires { from ≤ length text.now }
-    ensures { (from ≤ result) × (result ≤ length text.now) }
+// A text in two: up to a byte, and from there on, which is nothing where the byte does not stand in it.
+fn split_before(text: &[u8], byte: u8) -> (&[u8], &[u8])
+    ensures { length result.0.now + length result.1.now ≡ length text.now }
 {
-    let mut i = from;
-    while i < text.len() {
-        if text[i] == byte {
-            return i;
-        }
-        i += 1;
-    }
-    i
+    text.split_at(text.iter().position(|b| *b == byte).unwrap_or(text.len()))
 }
 
-// The value of a digit, 16 where it is none.
+// The value of a digit, 16 where it is none, which counts like the others in the byte that it is part of.
 fn digit(b: u8) -> usize
     ensures { result ≤ 16 }
 {
-    let c = wide(b);
-    if 48 <= c {
-        if c <= 57 {
-            return c - 48;
-        }
+    match b {
+        b'0'..=b'9' => usize::from(b - b'0'),
+        b'a'..=b'f' => usize::from(b - b'a') + 10,
+        _ => 16,
     }
-    if 97 <= c {
-        if c <= 102 {
-            return c - 87;
-        }
-    }
-    16
 }
 
 // The decimal number that begins a text.
-fn decimal(text: &[u8]) -> usize
-    ensures { result ≤ 1000000 }
-{
+fn decimal(text: &[u8]) -> usize {
     let mut n = 0;
-    let mut i = 0;
-    while i < text.len() {
-        let d = digit(text[i]);
-        if 9 < d {
-            return n;
-        }
-        if 99999 < n {
+    for b in text {
+        let d = digit(*b);
+        if 9 < d || 99999 < n {
             return n;
         }
         n = n * 10 + d;
-        i += 1;
     }
     n
 }
 
-// Puts a byte, so many times, at a place; the place behind them.
+// Puts a byte, so many times, at a place, as far as there is room; the place behind them.
 fn put(file: &mut [u8], at: usize, byte: u8, times: usize) -> usize
     requires { at ≤ length file.old }
     ensures { result ≤ length file.old }
 {
-    let mut i = 0;
-    while i < times {
-        if file.len() <= at + i {
-            return file.len();
-        }
-        file[at + i] = byte;
-        i += 1;
-    }
-    at + i
+    let end = at + times.min(file.len() - at);
+    file[at..end].fill(byte);
+    end
 }
 
 fn byte_of(high: usize, low: usize) -> u8
@@ -263,16 +189,11 @@ fn byte_of(high: usize, low: usize) -> u8
 }
 
 // How often the byte stands that a text begins with.
-fn times(text: &[u8]) -> usize
-    ensures { result ≤ 1000000 }
-{
-    if text.len() < 3 {
-        return 1;
+fn times(text: &[u8]) -> usize {
+    match text {
+        [_, _, b'*', behind @ ..] => decimal(behind),
+        _ => 1,
     }
-    if text[2] != b'*' {
-        return 1;
-    }
-    decimal(&text[3..])
 }
 
 // The bytes that a line states in hex, parted by spaces; how many there are.
@@ -280,44 +201,41 @@ fn decode(line: &[u8], file: &mut [u8]) -> usize
     ensures { result ≤ length file.old }
 {
     let mut bytes = 0;
-    let mut i = place_of(line, 0, b' ');
-    while i + 2 < line.len() {
-        i += 1;
-        bytes = put(
-            file,
-            bytes,
-            byte_of(digit(line[i]), digit(line[i + 1])),
-            times(&line[i..]),
-        );
-        i = place_of(line, i, b' ');
+    let (_, mut rest) = split_before(line, b' ');
+    // a `while`: what is read says where the next space stands
+    while let [_, high, low, ..] = rest {
+        let text = &rest[1..];
+        bytes = put(file, bytes, byte_of(digit(*high), digit(*low)), times(text));
+        (_, rest) = split_before(text, b' ');
     }
     bytes
 }
 
-fn answer(name: &[u8], line: &[u8], file: &mut [u8]) {
-    io::write_all(1, name);
-    io::write_all(1, b":");
+fn answer(rt: &impl Print, name: &[u8], line: &[u8], file: &mut [u8]) -> Result<()> {
+    rt.write_all(name)?;
+    print!(rt; ":")?;
     let bytes = decode(line, file);
-    print_answers(&file[..bytes]);
-    io::write_all(1, b"\n");
+    print_answers(rt, &file[..bytes])?;
+    println!(rt; "")
 }
 
-fn run(text: &[u8], file: &mut [u8]) {
-    let mut at = 0;
-    while at < text.len() {
-        let colon = place_of(text, at, b':');
-        let end = place_of(text, colon, b'\n');
-        answer(&text[at..colon], &text[colon..end], file);
-        if end == text.len() {
-            return;
-        }
-        at = end + 1;
+fn run(rt: &impl Print, text: &[u8], file: &mut [u8]) -> Result<()> {
+    let mut rest = text;
+    // a `while`: what is read says where the next line begins
+    while !rest.is_empty() {
+        let (name, from_colon) = split_before(rest, b':');
+        let (line, from_end) = split_before(from_colon, b'\n');
+        answer(rt, name, line, file)?;
+        rest = from_end.get(1..).unwrap_or(&[]);
     }
+    Ok(())
 }
 
-fn main() {
+fn main(rt: HostRuntime) {
+    // the kit's `io`: std reads an input of unknown length only into a `Vec`
     let mut input = io::large_buffer();
-    let n = io::read_full(0, &mut input);
+    let n = io::read_full(STDIN_FILENO, &mut input);
     let mut file = [0; ROOM];
-    run(&input[..n], &mut file);
+    // a line that cannot be written ends the run
+    let _ = run(&rt, &input[..n], &mut file);
 }

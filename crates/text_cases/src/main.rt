@@ -5,13 +5,10 @@
 
 ghost use Rattle.std.specs.Prelude.{◌≤◌, length};
 
+use showing::print_refusal;
+use std::io;
+use std::io::Read;
 use text::calls::{TextAnswer, clause_line, header, lines};
-
-// Standard input, by its number.
-const STDIN_FILENO: i32 = 0;
-
-// Standard output, by its number.
-const STDOUT_FILENO: i32 = 1;
 
 const FOLDER_LENGTH: usize = 38;
 
@@ -20,169 +17,141 @@ const ROOM: usize = 40;
 
 const WIDE_ROOM: usize = 480;
 
-fn show_answer(answer: TextAnswer) {
+fn show_answer(rt: &impl Print, answer: TextAnswer) -> io::Result<()> {
     match answer {
-        TextAnswer::Written { lines, bytes } => {
-            io::print_decimal(STDOUT_FILENO, lines as u64);
-            io::write_all(STDOUT_FILENO, b" lines, ");
-            io::print_decimal(STDOUT_FILENO, bytes as u64);
-            io::write_all(STDOUT_FILENO, b" bytes: ");
-        }
+        TextAnswer::Written { lines, bytes } => print!(rt; "{lines} lines, {bytes} bytes: "),
         TextAnswer::Refused(why) => {
-            io::write_all(STDOUT_FILENO, b"refused ");
-            io::print_decimal(STDOUT_FILENO, refusals::number_of(why) as u64);
-            io::write_all(STDOUT_FILENO, b" ");
-            io::print_decimal(STDOUT_FILENO, refusals::detail_of(why) as u64);
-            io::write_all(STDOUT_FILENO, b": ");
+            print!(rt; "refused ")?;
+            print_refusal(rt, why)?;
+            print!(rt; ": ")
         }
     }
-}
-
-fn shown(b: u8) -> u8 {
-    if b == b'\n' {
-        return b'/';
-    }
-    b
 }
 
 // The lent room, on one line.
-fn show_room(out: &mut [u8]) {
-    let mut i = 0;
-    while i < out.len() {
-        out[i] = shown(out[i]);
-        i += 1;
+fn show_room(rt: &impl Print, out: &mut [u8]) -> io::Result<()> {
+    for byte in out.iter_mut() {
+        if *byte == b'\n' {
+            *byte = b'/';
+        }
     }
-    io::write_all(STDOUT_FILENO, out);
-    io::write_all(STDOUT_FILENO, b"\n");
+    rt.write_all(out)?;
+    println!(rt; "")
 }
 
-fn header_in(file: &[u8], horizon: usize, room: usize, out: &mut [u8])
-    requires { room ≤ length out.old }
-{
-    show_answer(header(file, horizon, &mut out[..room]));
-    show_room(out);
-}
-
-fn show_header(file: &[u8], horizon: usize, room: usize)
+fn show_header(rt: &impl Print, file: &[u8], horizon: usize, room: usize) -> io::Result<()>
     requires { room ≤ 40 }
 {
     let mut out = [b'?'; ROOM];
-    header_in(file, horizon, room, &mut out);
+    show_answer(rt, header(file, horizon, &mut out[..room]))?;
+    show_room(rt, &mut out)
 }
 
-fn line_in(file: &[u8], horizon: usize, c: usize, room: usize, out: &mut [u8])
-    requires { room ≤ length out.old }
-{
-    show_answer(clause_line(file, horizon, c, &mut out[..room]));
-    show_room(out);
-}
-
-fn show_line(file: &[u8], horizon: usize, c: usize, room: usize)
+fn show_line(rt: &impl Print, file: &[u8], horizon: usize, c: usize, room: usize) -> io::Result<()>
     requires { room ≤ 40 }
 {
     let mut out = [b'?'; ROOM];
-    line_in(file, horizon, c, room, &mut out);
+    show_answer(rt, clause_line(file, horizon, c, &mut out[..room]))?;
+    show_room(rt, &mut out)
 }
 
-fn lines_in(file: &[u8], horizon: usize, c: usize, room: usize, out: &mut [u8])
-    requires { room ≤ length out.old }
-{
-    show_answer(lines(file, horizon, c, &mut out[..room]));
-    show_room(out);
-}
-
-fn show_lines(file: &[u8], horizon: usize, c: usize, room: usize)
+fn show_lines(rt: &impl Print, file: &[u8], horizon: usize, c: usize, room: usize) -> io::Result<()>
     requires { room ≤ 40 }
 {
     let mut out = [b'?'; ROOM];
-    lines_in(file, horizon, c, room, &mut out);
+    show_answer(rt, lines(file, horizon, c, &mut out[..room]))?;
+    show_room(rt, &mut out)
 }
 
 // All lines at a horizon.
-fn show_all(file: &[u8], horizon: usize) {
+fn show_all(rt: &impl Print, file: &[u8], horizon: usize) -> io::Result<()> {
     let mut out = [b'?'; WIDE_ROOM];
-    lines_in(file, horizon, 0, WIDE_ROOM, &mut out);
+    show_answer(rt, lines(file, horizon, 0, &mut out))?;
+    show_room(rt, &mut out)
 }
 
 // The first so many bytes of the file.
-fn show_cut(file: &[u8], bytes: usize)
+fn show_cut(rt: &impl Print, file: &[u8], bytes: usize) -> io::Result<()>
     requires { bytes ≤ length file.now }
 {
-    show_header(&file[..bytes], 1, ROOM);
-    show_line(&file[..bytes], 1, 0, ROOM);
-    show_lines(&file[..bytes], 1, 0, ROOM);
+    show_header(rt, &file[..bytes], 1, ROOM)?;
+    show_line(rt, &file[..bytes], 1, 0, ROOM)?;
+    show_lines(rt, &file[..bytes], 1, 0, ROOM)
 }
 
-fn show_headers(folder: &[u8]) {
-    show_header(folder, 0, ROOM);
-    show_header(folder, 1, ROOM);
-    show_header(folder, 2, ROOM);
-    show_header(folder, 3, ROOM);
-    show_header(folder, 64, ROOM);
-    show_header(folder, 65, ROOM);
+fn show_headers(rt: &impl Print, folder: &[u8]) -> io::Result<()> {
+    show_header(rt, folder, 0, ROOM)?;
+    show_header(rt, folder, 1, ROOM)?;
+    show_header(rt, folder, 2, ROOM)?;
+    show_header(rt, folder, 3, ROOM)?;
+    show_header(rt, folder, 64, ROOM)?;
+    show_header(rt, folder, 65, ROOM)?;
     // 12 bytes
-    show_header(folder, 1, 12);
-    show_header(folder, 1, 11);
-    show_header(folder, 1, 0);
-    show_header(folder, 65, 0);
+    show_header(rt, folder, 1, 12)?;
+    show_header(rt, folder, 1, 11)?;
+    show_header(rt, folder, 1, 0)?;
+    show_header(rt, folder, 65, 0)
 }
 
-fn show_single(folder: &[u8]) {
+fn show_single(rt: &impl Print, folder: &[u8]) -> io::Result<()> {
     // "-7 1 6 0" and its LF
-    show_line(folder, 1, 17, ROOM);
-    show_line(folder, 1, 17, 9);
-    show_line(folder, 1, 17, 8);
-    show_line(folder, 1, 17, 0);
+    show_line(rt, folder, 1, 17, ROOM)?;
+    show_line(rt, folder, 1, 17, 9)?;
+    show_line(rt, folder, 1, 17, 8)?;
+    show_line(rt, folder, 1, 17, 0)?;
     // the last clause, and the one behind it
-    show_line(folder, 1, 21, ROOM);
-    show_line(folder, 1, 22, ROOM);
-    show_line(folder, 1, 22, 0);
-    show_line(folder, 64, 966, ROOM);
-    show_line(folder, 64, 967, ROOM);
-    show_line(folder, 65, 966, 0);
+    show_line(rt, folder, 1, 21, ROOM)?;
+    show_line(rt, folder, 1, 22, ROOM)?;
+    show_line(rt, folder, 1, 22, 0)?;
+    show_line(rt, folder, 64, 966, ROOM)?;
+    show_line(rt, folder, 64, 967, ROOM)?;
+    show_line(rt, folder, 65, 966, 0)
 }
 
-fn show_runs(folder: &[u8]) {
-    show_all(folder, 0);
-    show_all(folder, 1);
-    show_all(folder, 2);
-    show_all(folder, 3);
+fn show_runs(rt: &impl Print, folder: &[u8]) -> io::Result<()> {
+    show_all(rt, folder, 0)?;
+    show_all(rt, folder, 1)?;
+    show_all(rt, folder, 2)?;
+    show_all(rt, folder, 3)?;
     // three lines fit to the byte, and then two
-    show_lines(folder, 1, 0, 13);
-    show_lines(folder, 1, 0, 12);
-    show_lines(folder, 1, 0, 4);
-    show_lines(folder, 1, 0, 3);
-    show_lines(folder, 1, 0, 0);
+    show_lines(rt, folder, 1, 0, 13)?;
+    show_lines(rt, folder, 1, 0, 12)?;
+    show_lines(rt, folder, 1, 0, 4)?;
+    show_lines(rt, folder, 1, 0, 3)?;
+    show_lines(rt, folder, 1, 0, 0)?;
     // the last two lines, and behind the last
-    show_lines(folder, 1, 20, ROOM);
-    show_lines(folder, 1, 21, ROOM);
-    show_lines(folder, 1, 22, ROOM);
-    show_lines(folder, 64, 966, ROOM);
-    show_lines(folder, 65, 0, ROOM);
+    show_lines(rt, folder, 1, 20, ROOM)?;
+    show_lines(rt, folder, 1, 21, ROOM)?;
+    show_lines(rt, folder, 1, 22, ROOM)?;
+    show_lines(rt, folder, 64, 966, ROOM)?;
+    show_lines(rt, folder, 65, 0, ROOM)
 }
 
-fn show_refused(folder: &[u8])
+fn show_refused(rt: &impl Print, folder: &[u8]) -> io::Result<()>
     requires { 38 ≤ length folder.now }
 {
-    show_cut(folder, 0);
-    show_cut(folder, 1);
-    show_cut(folder, 2);
-    show_cut(folder, 3);
-    show_cut(folder, 37);
+    show_cut(rt, folder, 0)?;
+    show_cut(rt, folder, 1)?;
+    show_cut(rt, folder, 2)?;
+    show_cut(rt, folder, 3)?;
+    show_cut(rt, folder, 37)
 }
 
-fn show_folder(folder: &[u8]) {
-    if folder.len() < FOLDER_LENGTH {
+fn show_folder(rt: &impl Print, folder: &[u8]) -> io::Result<()>
+    requires { 38 ≤ length folder.now }
+{
+    show_headers(rt, folder)?;
+    show_single(rt, folder)?;
+    show_runs(rt, folder)?;
+    show_refused(rt, folder)
+}
+
+fn main(rt: HostRuntime) {
+    let mut folder = [0u8; FOLDER_LENGTH];
+    // a shorter file is not shown
+    if rt.stdin().read_exact(&mut folder).is_err() {
         return;
     }
-    show_headers(folder);
-    show_single(folder);
-    show_runs(folder);
-    show_refused(folder);
-}
-
-fn main() {
-    let mut folder = [0u8; FOLDER_LENGTH];
-    let n = io::read_full(STDIN_FILENO, &mut folder);
-    show_folder(&folder[..n]);
+    // a line that cannot be written ends the run
+    let _ = show_folder(&rt, &folder);
 }

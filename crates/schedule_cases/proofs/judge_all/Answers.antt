@@ -1,7 +1,0 @@
--- Assumes nothing.
-use borrow.Author.Rules.{rules}
-use lib.Seq.{length-take-le}
-use Rattle.schedule_cases.proofs.judge_all.Goals as goal
-
-pub slice_bounds-judge-end : goal.slice_bounds-judge-end
-slice_bounds-judge-end c = search (rules, length-take-le)

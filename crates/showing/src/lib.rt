@@ -1,0 +1,39 @@
+// What several of the programs that run stored cases show alike.
+#![tactic(auto)]
+
+use refusals::{detail_of, number_of};
+use rules::{Phase, Refusal, Verdict};
+use std::io;
+
+// Its number and its detail.
+pub fn print_refusal(rt: &impl Print, why: Refusal) -> io::Result<()> {
+    print!(rt; "{} {}", number_of(why), detail_of(why))
+}
+
+// Number and detail of the refusal, 0 and 0 at acceptance.
+pub fn print_verdict(rt: &impl Print, verdict: Verdict) -> io::Result<()> {
+    match verdict {
+        Verdict::Accepted => print!(rt; "0 0"),
+        Verdict::Refused(why) => print_refusal(rt, why),
+    }
+}
+
+// How far a reading of solver output is.
+pub fn name_of(phase: Phase) -> &'static str {
+    match phase {
+        Phase::NoStatus => "no-status",
+        Phase::ModelOpen => "open",
+        Phase::ModelClosed => "closed",
+        Phase::SaidUnsatisfiable => "unsatisfiable",
+        Phase::SaidUnknown => "unknown",
+    }
+}
+
+// The words of a row, behind a colon.
+pub fn print_row(rt: &impl Print, row: &[u64]) -> io::Result<()> {
+    print!(rt; " :")?;
+    for word in row {
+        print!(rt; " {word}")?;
+    }
+    Ok(())
+}
