@@ -1,13 +1,10 @@
 // Calls on a task file and its clauses.
-ghost use Rattle.std.specs.Prelude.{◌≡◌};
+ghost use Rattle.std.specs.Prelude.{◌≡◌, Ok};
 ghost use Rattle.rules.specs.File.{file_verdict};
-ghost use Rattle.rules.specs.declared.Verdict.TheVariants.{Accepted};
 
 use crate::replies;
 use crate::replies::Reply;
-use formula::calls::{CountsAnswer, LiteralsAnswer};
 use reader::contents;
-use rules::Verdict;
 use task::index::INDEX_LENGTH;
 
 const BODIES: usize = 4;
@@ -20,7 +17,7 @@ const NO_STRETCH: usize = 18446744073709551615;
 
 // n and A of an accepted file.
 fn sizes(file: &[u8]) -> Reply
-    requires { file_verdict file.now ≡ Accepted }
+    requires { file_verdict file.now ≡ Ok tt }
 {
     let mut index = [0u16; INDEX_LENGTH];
     task::filling::fill_index(file, &mut index);
@@ -32,7 +29,7 @@ fn sizes(file: &[u8]) -> Reply
 
 pub fn judge(file: &[u8]) -> Reply {
     let verdict = reader::file::file_verdict(file);
-    let Verdict::Accepted = verdict else {
+    let Ok(()) = verdict else {
         return replies::judged(verdict);
     };
     sizes(file)
@@ -40,7 +37,7 @@ pub fn judge(file: &[u8]) -> Reply {
 
 // Where the body of a number starts, if there is one.
 fn start_of(file: &[u8], number: usize) -> Option<usize> {
-    let Verdict::Accepted = contents::contents_verdict(file) else {
+    let Ok(()) = contents::contents_verdict(file) else {
         return None;
     };
     if number == 0 || BODIES < number {
@@ -67,14 +64,14 @@ pub fn body(file: &[u8], number: usize) -> Reply {
 
 pub fn counts(file: &[u8], horizon: usize) -> Reply {
     match formula::calls::counts(file, horizon) {
-        CountsAnswer::Refused(why) => replies::refused(why),
-        CountsAnswer::Found { variables, clauses } => replies::counted(variables, clauses),
+        Err(why) => replies::refused(why),
+        Ok(counts) => replies::counted(counts.variables, counts.clauses),
     }
 }
 
 pub fn literals(file: &[u8], horizon: usize, c: usize, out: &mut [i32]) -> Reply {
     match formula::calls::literals(file, horizon, c, out) {
-        LiteralsAnswer::Refused(why) => replies::refused(why),
-        LiteralsAnswer::Count(count) => replies::counted(count, 0),
+        Err(why) => replies::refused(why),
+        Ok(count) => replies::counted(count, 0),
     }
 }

@@ -4,13 +4,13 @@ use crate::replies::Reply;
 use lent_bytes::words::line_end;
 use output::feeding;
 use output::feeding::LINE_ROOM;
-use rules::{LineAnswer, Reading};
+use rules::{Reading, Refusal};
 
 // N and the phase, or the refusal.
-fn reply(answer: LineAnswer) -> Reply {
+fn reply(answer: Result<Reading, Refusal>) -> Reply {
     match answer {
-        LineAnswer::Refused(why) => replies::refused(why),
-        LineAnswer::Next(reading) => {
+        Err(why) => replies::refused(why),
+        Ok(reading) => {
             let phase = reading.phase;
             replies::counted(reading.highest, replies::phase_number(phase))
         }
@@ -26,12 +26,12 @@ pub fn line(reading: Reading, given: &mut [u64], truth: &mut [u64], text: &[u8])
 }
 
 // How many lines were taken, and the phase after them.
-fn folded(answer: LineAnswer, lines: usize, reading: Reading) -> Reply {
+fn folded(answer: Result<Reading, Refusal>, lines: usize, reading: Reading) -> Reply {
     let phase = reading.phase;
     let number = replies::phase_number(phase);
     match answer {
-        LineAnswer::Refused(why) => replies::refused_beside(why, lines, number),
-        LineAnswer::Next(_) => replies::counted(lines, number),
+        Err(why) => replies::refused_beside(why, lines, number),
+        Ok(_) => replies::counted(lines, number),
     }
 }
 
@@ -44,14 +44,14 @@ pub fn fold(first: Reading, given: &mut [u64], truth: &mut [u64], text: &[u8]) -
     while at < text.len() {
         let end = line_end(text, at);
         let answer = output::read_line(reading, given, truth, &text[at..end]);
-        let LineAnswer::Next(next) = answer else {
+        let Ok(next) = answer else {
             return folded(answer, lines, reading);
         };
         reading = next;
         lines += 1;
         at = end + 1;
     }
-    folded(LineAnswer::Next(reading), lines, reading)
+    folded(Ok(reading), lines, reading)
 }
 
 // A whole output, fed in pieces of a size; 0 is all at once.

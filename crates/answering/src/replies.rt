@@ -1,5 +1,5 @@
 // What an answer begins with, and what the numbers of a reading state stand for.
-use rules::{Phase, Refusal, Verdict};
+use rules::{Phase, Refusal};
 
 // Number and detail of a refusal, 0 and 0 at acceptance; then what the call counts.
 #[derive(Clone, Copy)]
@@ -33,14 +33,14 @@ pub fn refused(why: Refusal) -> Reply {
     refused_beside(why, 0, 0)
 }
 
-pub fn judged_beside(verdict: Verdict, first: usize, second: usize) -> Reply {
+pub fn judged_beside(verdict: Result<(), Refusal>, first: usize, second: usize) -> Reply {
     match verdict {
-        Verdict::Accepted => counted(first, second),
-        Verdict::Refused(why) => refused_beside(why, first, second),
+        Ok(()) => counted(first, second),
+        Err(why) => refused_beside(why, first, second),
     }
 }
 
-pub fn judged(verdict: Verdict) -> Reply {
+pub fn judged(verdict: Result<(), Refusal>) -> Reply {
     judged_beside(verdict, 0, 0)
 }
 

@@ -1,14 +1,15 @@
 // Calls for the text of a formula.
 use crate::replies;
 use crate::replies::Reply;
+use rules::Refusal;
 use text::calls;
-use text::calls::TextAnswer;
+use text::runs::Run;
 
 // How many bytes one line has.
-fn one_line(answer: TextAnswer) -> Reply {
+fn one_line(answer: Result<Run, Refusal>) -> Reply {
     match answer {
-        TextAnswer::Refused(why) => replies::refused(why),
-        TextAnswer::Written { lines: _, bytes } => replies::counted(bytes, 0),
+        Err(why) => replies::refused(why),
+        Ok(run) => replies::counted(run.bytes, 0),
     }
 }
 
@@ -22,7 +23,7 @@ pub fn clause(file: &[u8], horizon: usize, c: usize, room: &mut [u8]) -> Reply {
 
 pub fn lines(file: &[u8], horizon: usize, c: usize, room: &mut [u8]) -> Reply {
     match calls::lines(file, horizon, c, room) {
-        TextAnswer::Refused(why) => replies::refused(why),
-        TextAnswer::Written { lines, bytes } => replies::counted(lines, bytes),
+        Err(why) => replies::refused(why),
+        Ok(run) => replies::counted(run.lines, run.bytes),
     }
 }

@@ -1,5 +1,6 @@
 -- Verdicts on tasks beyond a limit: a body too long, and actions of which only the first ones before an action at fault are looked at.
 -- Assumes nothing.
+use Rattle.std.specs.Prelude.{Err}
 use mathlib.Core.Path.{◌≡◌, refl, sym, ap, ◌∙◌}
 use mathlib.Core.Logic.{◌⊎◌, ⊎_elim}
 use mathlib.Core.Bool.{Bool, true, false, not, ◌&&◌}
@@ -12,11 +13,9 @@ use lib.ListN.{length, take, length-take}
 use lib.Seq.{get_or-take}
 use Rattle.rules.specs.Counting.{first}
 use Rattle.rules.specs.Limits.{max_variables, max_goals, max_actions, max_pairs}
-use Rattle.rules.specs.Answers.{Rule, demand, judge, in_turn}
+use Rattle.rules.specs.Answers.{Rule, demand, judge, in_turn, Verdict}
 use Rattle.rules.specs.Task.{Action, Task, n, A, action, pair_at_fault, size_at_fault, start_at_fault, list_in_order, action_in_order, action_at_fault, task_rules}
 use Rattle.rules.specs.declared.Refusal.TheVariants.{BodyLength, ActionAtFault}
-use Rattle.rules.specs.declared.Verdict.{Verdict}
-use Rattle.rules.specs.declared.Verdict.TheVariants.{Refused}
 use Rattle.rules.proofs.Bools.{either, clash, not_false, below_or}
 use Rattle.rules.proofs.Counting.{first_le, first_before, first_at, first_ext, first_is}
 use Rattle.rules.proofs.Judging.{judge_passed, judge_refused, judge_nil}
@@ -29,7 +28,7 @@ use Rattle.bodies.proofs.Judged.{Fitting, lengths_fit}
 abbrev pub TooLong : Task → Type 0
 TooLong T = (max_variables < max (n T) (length T.start)) ⊎ (max_goals < length T.goal)
 
-pub judged_long : (T : Task) → TooLong T → judge (task_rules true (λ a. true) T) ≡ Refused BodyLength
+pub judged_long : (T : Task) → TooLong T → judge (task_rules true (λ a. true) T) ≡ Err BodyLength
 unfolding task_rules
 judged_long T h =
     ⊎_elim
@@ -116,26 +115,26 @@ module _ (T : Task) (j : ℕ) (below : j < A T) where
       cut_number : min max_actions (first (A T) (fault T)) ≡ j
       cut_number = ⊎_elim (λ e. omega (arith, cut_later)) (λ many. omega (arith, cut_many many)) over
 
-    cut_last : in_turn (judge (last_rule (cut_to j T) ∷ [])) (Refused (ActionAtFault j)) ≡ judge (last_rule T ∷ [])
+    cut_last : in_turn (judge (last_rule (cut_to j T) ∷ [])) (Err (ActionAtFault j)) ≡ judge (last_rule T ∷ [])
     cut_last =
         ⊎_elim
         (λ l.
-        ap (λ v. in_turn v (Refused (ActionAtFault j)))
+        ap (λ v. in_turn v (Err (ActionAtFault j)))
         (judge_refused (last_rule (cut_to j T)) [] (rw (cut_first, cut_A, ne_eqb (first j (fault T)) j (λ e. absurd (omega arith)))))
-        ∙ ap (λ i. Refused (ActionAtFault (min max_actions i))) (cut_first ∙ sym (cut_fault_before l))
+        ∙ ap (λ i. Err (ActionAtFault (min max_actions i))) (cut_first ∙ sym (cut_fault_before l))
         ∙ sym (judge_refused (last_rule T) [] (rw (cut_fault_before l, ne_eqb (first j (fault T)) (A T) (λ e. absurd (omega arith))))))
         (λ l.
         let none : first j (fault T) ≡ j = omega (arith, first_le j (fault T)) in
-        ap (λ v. in_turn v (Refused (ActionAtFault j)))
+        ap (λ v. in_turn v (Err (ActionAtFault j)))
         (judge_passed (last_rule (cut_to j T)) [] (rw (cut_first, cut_A, none, eq-eqb j j refl, le-leb j max_actions limit)) ∙ judge_nil)
-        ∙ ap (λ i. Refused (ActionAtFault i)) (sym (cut_number l))
+        ∙ ap (λ i. Err (ActionAtFault i)) (sym (cut_number l))
         ∙ sym (judge_refused (last_rule T) [] (cut_refused l)))
         (below_or (first j (fault T)) j)
 
-    pub judged_cut : judge (task_rules true (λ a. true) T) ≡ in_turn (judge (task_rules true (λ a. true) (cut_to j T))) (Refused (ActionAtFault j))
+    pub judged_cut : judge (task_rules true (λ a. true) T) ≡ in_turn (judge (task_rules true (λ a. true) (cut_to j T))) (Err (ActionAtFault j))
     unfolding task_rules size_at_fault start_at_fault pair_at_fault
     judged_cut =
-        let later : Verdict = Refused (ActionAtFault j) in
+        let later : Verdict = Err (ActionAtFault j) in
         sym
         (judge_turn _ _ _ later (λ lengths.
         judge_turn _ _ _ later (λ sizes.

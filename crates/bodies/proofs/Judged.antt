@@ -1,5 +1,6 @@
 -- Verdicts on tasks: a task is judged as it is judged blurred, and a valid one is the same blurred.
 -- Assumes nothing.
+use Rattle.std.specs.Prelude.{Err}
 use mathlib.Core.Path.{◌≡◌, refl, sym, ap, ◌∙◌}
 use mathlib.Core.Logic.{⊎_elim}
 use mathlib.Core.Bool.{Bool, true, false, ◌&&◌}
@@ -18,7 +19,6 @@ use Rattle.rules.proofs.Counting.{first_ext, none_at, sum_to-ext}
 use Rattle.rules.proofs.Judging.{judge_passed, judge_refused}
 use Rattle.rules.proofs.Valid.{Inside, InOrder, ActionFine, WellFormed}
 use Rattle.rules.specs.declared.Refusal.TheVariants.{DomainSize, StartValue, GoalPair, ActionAtFault}
-use Rattle.rules.specs.declared.Verdict.TheVariants.{Refused}
 use Rattle.bodies.specs.Keeping.{as_byte}
 use Rattle.bodies.proofs.Alike.{blur, blur_near, blur_variable, blur_action, blur_task}
 
@@ -27,7 +27,7 @@ judge_alike : (r q : Rule) (rs qs : List Rule) → r.holds ≡ q.holds → r.ref
     → judge (r ∷ rs) ≡ judge (q ∷ qs)
 judge_alike r q rs qs h e later =
     ⊎_elim (λ t. judge_passed r rs (h ∙ t) ∙ later t ∙ sym (judge_passed q qs t))
-    (λ t. judge_refused r rs (h ∙ t) ∙ ap Refused e ∙ sym (judge_refused q qs t))
+    (λ t. judge_refused r rs (h ∙ t) ∙ ap Err e ∙ sym (judge_refused q qs t))
     (either q.holds)
 
 and_alike : (a c b e : Bool) → a ≡ c → (c ≡ true → b ≡ e) → (a && b) ≡ (c && e)

@@ -1,5 +1,6 @@
 -- The verdict on what is kept: it tells the verdict on the task stated, and where that is accepted the bodies kept are those of its file.
 -- Assumes nothing.
+use Rattle.std.specs.Prelude.{Ok, Err}
 use mathlib.Core.Path.{◌≡◌, sym, ap, ◌∙◌}
 use mathlib.Core.Logic.{◌⊎◌, inl, inr}
 use mathlib.Core.Bool.{Bool, true}
@@ -10,13 +11,11 @@ use borrow.Author.Tests.{eq-eqb}
 use lib.Dec.{eqb}
 use lib.ListN.{length, take, length-map, get_or-map}
 use Rattle.rules.specs.Limits.{max_actions, pair_bytes}
-use Rattle.rules.specs.Answers.{judge, in_turn}
+use Rattle.rules.specs.Answers.{judge, in_turn, Verdict}
 use Rattle.rules.specs.Task.{Task, Action, A, action, action_at_fault, task_rules}
 use Rattle.rules.specs.File.{pair_text, action_text, rests, is_whole, bodies_of}
 use Rattle.rules.specs.Format.{Stated, no_action}
 use Rattle.rules.specs.declared.Refusal.TheVariants.{BodyLength, ActionAtFault}
-use Rattle.rules.specs.declared.Verdict.{Verdict}
-use Rattle.rules.specs.declared.Verdict.TheVariants.{Accepted, Refused}
 use Rattle.rules.proofs.Counting.{first_ext, for_each-joined}
 use Rattle.rules.proofs.Valid.{valid_well_formed}
 use Rattle.rules.proofs.Actions.{length-pair_text, goal_back, actions_back, actions_whole}
@@ -108,24 +107,24 @@ module _ (s : Stated) (k : Kept) (sizes start goal actions : List ℕ) (r : Stat
     verdict_within =
         verdict_in_bytes ∙ sym (judged_blurred t) ∙ ap (λ u. task_verdict u.task) alike ∙ judged_blurred s.task
 
-    task_kept : task_verdict s.task ≡ Accepted → t ≡ s.task
+    task_kept : task_verdict s.task ≡ Ok tt → t ≡ s.task
     task_kept h =
         sym (blurred_same t (valid_well_formed t (sym verdict_in_bytes ∙ verdict_within ∙ h)))
         ∙ ap (λ u. u.task) alike
         ∙ blurred_same s.task (valid_well_formed s.task h)
 
     -- and of an accepted task the bodies kept are those of its file
-    pub bodies_within : task_verdict s.task ≡ Accepted → kept_bodies k sizes start goal actions ≡ bodies_of s.task
+    pub bodies_within : task_verdict s.task ≡ Ok tt → kept_bodies k sizes start goal actions ≡ bodies_of s.task
     bodies_within h =
         (λ i. sizes_kept i ∷ start_kept i ∷ goal_kept i ∷ actions_kept i ∷ []) ∙ bodies_of_lem t ∙ ap bodies_of (task_kept h)
 
   -- a body too long is refused as that
-  pub verdict_lengths : k.excess ≡ Lengths → task_verdict s.task ≡ Refused BodyLength
+  pub verdict_lengths : k.excess ≡ Lengths → task_verdict s.task ≡ Err BodyLength
   verdict_lengths e = judged_long s.task (rw e at r.agrees)
 
   -- beyond a limit of the actions, with no operator half read: number k .actions is at fault, unless another is before it
   pub verdict_actions : k.excess ≡ Actions → s.action ≡ no_action
-      → task_verdict s.task ≡ in_turn (kept_verdict k sizes start goal actions) (Refused (ActionAtFault k.actions))
+      → task_verdict s.task ≡ in_turn (kept_verdict k sizes start goal actions) (Err (ActionAtFault k.actions))
   verdict_actions e done =
       let c : CutShort s r.in_bytes = rw e at r.agrees in
       let j : ℕ = A t in
@@ -133,5 +132,5 @@ module _ (s : Stated) (k : Kept) (sizes start goal actions : List ℕ) (r : Stat
       let count : k.actions ≡ j = r.actions_held.counted in
       sym (judged_blurred s.task)
       ∙ judged_cut (blur_task s.task) j o.0 (omega (arith, r.sound.actions)) o.1
-      ∙ (λ i. in_turn (task_verdict (sym c.task i)) (Refused (ActionAtFault (sym count i))))
-      ∙ ap (λ v. in_turn v (Refused (ActionAtFault k.actions))) (judged_blurred t ∙ sym verdict_in_bytes)
+      ∙ (λ i. in_turn (task_verdict (sym c.task i)) (Err (ActionAtFault (sym count i))))
+      ∙ ap (λ v. in_turn v (Err (ActionAtFault k.actions))) (judged_blurred t ∙ sym verdict_in_bytes)

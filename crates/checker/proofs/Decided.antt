@@ -6,7 +6,7 @@ use Prim.Native.Nat.{ℕ}
 use borrow.Fn.Kinds.{Dens, ended_of}
 use contract.Lifetimes.{Lfts}
 use denote.Triple.Clauses.{AtExit}
-use Rattle.rules.specs.declared.Verdict.{Verdict}
+use Rattle.rules.specs.Answers.{Verdict}
 use Rattle.checker.proofs.end.finish.Kinds as finish-kinds
 use Rattle.checker.proofs.end.finish.Reads as finish
 use Rattle.checker.proofs.search.lowest_unmet.Kinds as lowest-unmet-kinds

@@ -2,7 +2,7 @@
 -- Assumes nothing.
 use mathlib.Core.Path.{◌≡◌, refl, sym, ap, ◌∙◌}
 use mathlib.Core.Bool.{Bool}
-use mathlib.Core.List.{List, [], ◌∷◌}
+use mathlib.Core.List.{List}
 use lib.ListN.{get_or}
 use Prim.Native.Nat.{ℕ, zero, suc, ◌+◌, ◌*◌, ◌≤◌, ◌<◌}
 use native.Mathlib.Omega.{arith}
@@ -20,35 +20,23 @@ use Rattle.rules.proofs.Counting.{first_le, first_before, first_at, first_is}
 use Rattle.rules.proofs.Files.{accepted_well_formed}
 use Rattle.rules.proofs.ByNumber.{clauses_before}
 use Rattle.task.specs.Index.{Indexed}
-use Rattle.checker.specs.Order.{is_unmet, steps_of, items_of, clauses_of, step_clauses, first_clause, Reached, Come, family_count, family_number, start_values, goal_pairs, two_actions}
-use Rattle.checker.specs.declared.sizes.Family.{Family}
-use Rattle.checker.specs.declared.sizes.Family.TheVariants.{StartValues, GoalPairs, SomeValue, TwoValues, PreconditionsHold, EffectsHold, ValuesStay, TwoActions}
+use Rattle.checker.specs.Order.{is_unmet, steps_of, items_of, clauses_of, step_clauses, first_clause, Reached, Come, family_count, start_values, goal_pairs, two_actions}
+use Rattle.task.specs.declared.family.Family.{Family}
+use Rattle.task.specs.declared.family.Family.TheVariants.{StartValues, GoalPairs, AllValues, TwoValues, Preconditions, Effects, ValuesStay, TwoActions}
 use Rattle.checker.proofs.Widths.{next_family, all_families, family_end, step_few, item_few, family_few, step_within, item_within}
+use Rattle.task.specs.Families.{number_of_family, families_in_order}
 
-pub family_below : (g : Family) → family_number g < family_count
+pub family_below : (g : Family) → number_of_family g < family_count
 family_below StartValues = omega arith
 family_below GoalPairs = omega arith
-family_below SomeValue = omega arith
+family_below AllValues = omega arith
 family_below TwoValues = omega arith
-family_below PreconditionsHold = omega arith
-family_below EffectsHold = omega arith
+family_below Preconditions = omega arith
+family_below Effects = omega arith
 family_below ValuesStay = omega arith
 family_below TwoActions = omega arith
 
--- the families in their order
-abbrev pub families : List Family
-families =
-    StartValues
-    ∷ GoalPairs
-    ∷ SomeValue
-    ∷ TwoValues
-    ∷ PreconditionsHold
-    ∷ EffectsHold
-    ∷ ValuesStay
-    ∷ TwoActions
-    ∷ []
-
-family_at : (i : ℕ) (g : Family) → i < family_count → family_number (get_or families i g) ≡ i
+family_at : (i : ℕ) (g : Family) → i < family_count → number_of_family (get_or families_in_order i g) ≡ i
 family_at zero g h = refl
 family_at (suc zero) g h = refl
 family_at (suc (suc zero)) g h = refl
@@ -61,7 +49,7 @@ family_at (suc (suc (suc (suc (suc (suc (suc (suc i)))))))) g h = absurd (omega 
 
 -- so many clauses it has
 pub width_at : (file : List ℕ) (k f : ℕ) (g : Family) (w : ℕ) → f < family_count
-    → w ≡ steps_of k (family_number (get_or families f g)) * step_clauses (task_of file) (family_number (get_or families f g)) → w ≡ steps_of k f * step_clauses (task_of file) f
+    → w ≡ steps_of k (number_of_family (get_or families_in_order f g)) * step_clauses (task_of file) (number_of_family (get_or families_in_order f g)) → w ≡ steps_of k f * step_clauses (task_of file) f
 width_at file k f g w l h = rw (family_at f g l) at h
 
 -- ---- the lowest number up to a place
@@ -84,8 +72,8 @@ module _ (file index : List ℕ) (rows : Rows) (k : ℕ) where
 
   -- ---- one item, by its family
 
-  module _ (g : Family) (s i at : ℕ) (c : Come file index rows k (family_number g) s i at) where
-    pub come_same : (f : ℕ) → family_number g ≡ f → Come file index rows k f s i at
+  module _ (g : Family) (s i at : ℕ) (c : Come file index rows k (number_of_family g) s i at) where
+    pub come_same : (f : ℕ) → number_of_family g ≡ f → Come file index rows k f s i at
     come_same f e = rw e at c
 
     pub come_start : g ≡ StartValues → Come file index rows k start_values 0 i at
@@ -199,10 +187,10 @@ module _ (file index : List ℕ) (rows : Rows) (k : ℕ) where
   -- ---- the families; the one at f has the number f
 
   module _ (f : ℕ) (g : Family) (l : f < family_count) where
-    pub reached_at : (at : ℕ) → Reached file index rows k f 0 0 at → Reached file index rows k (family_number (get_or families f g)) 0 0 at
+    pub reached_at : (at : ℕ) → Reached file index rows k f 0 0 at → Reached file index rows k (number_of_family (get_or families_in_order f g)) 0 0 at
     reached_at at r = rw (family_at f g l) r
 
-    pub lowest_at : (at c : ℕ) → c ≡ first (at + steps_of k (family_number (get_or families f g)) * step_clauses T (family_number (get_or families f g))) q
+    pub lowest_at : (at c : ℕ) → c ≡ first (at + steps_of k (number_of_family (get_or families_in_order f g)) * step_clauses T (number_of_family (get_or families_in_order f g))) q
         → c ≡ first (at + steps_of k f * step_clauses T f) q
     lowest_at at c h = rw (family_at f g l) at h
 

@@ -21,9 +21,10 @@ use Rattle.rules.proofs.Bounds.{C-bound}
 use Rattle.rules.proofs.Files.{accepted_well_formed}
 use Rattle.rules.proofs.ByNumber.{clauses_before}
 use Rattle.task.specs.Index.{Indexed, value_pairs_before, preconditions_before, effects_before}
-use Rattle.checker.specs.Order.{steps_of, items_of, clauses_of, step_clauses, first_clause, family_count, family_number}
-use Rattle.checker.specs.declared.sizes.Family.{Family}
-use Rattle.checker.specs.declared.sizes.Family.TheVariants.{StartValues, GoalPairs, SomeValue, TwoValues, PreconditionsHold, EffectsHold, ValuesStay, TwoActions}
+use Rattle.checker.specs.Order.{steps_of, items_of, clauses_of, step_clauses, first_clause, family_count}
+use Rattle.task.specs.declared.family.Family.{Family}
+use Rattle.task.specs.declared.family.Family.TheVariants.{StartValues, GoalPairs, AllValues, TwoValues, Preconditions, Effects, ValuesStay, TwoActions}
+use Rattle.task.specs.Families.{number_of_family}
 
 -- ---- steps
 
@@ -42,36 +43,36 @@ steps_most k (suc (suc (suc (suc (suc (suc (suc (suc f)))))))) = omega arith
 -- ---- a step's clauses, family by family
 
 module _ (T : Task) where
-  pub item_variable : (g : Family) (i : ℕ) → g ≡ TwoValues → i < items_of T (family_number g) → i < n T
+  pub item_variable : (g : Family) (i : ℕ) → g ≡ TwoValues → i < items_of T (number_of_family g) → i < n T
   unfolding items_of
   item_variable g i e h = rw e at h
 
-  pub step_variables : (g : Family) (r : ℕ) → (g ≡ StartValues) ⊎ (g ≡ SomeValue) → r ≡ n T → r ≡ step_clauses T (family_number g)
+  pub step_variables : (g : Family) (r : ℕ) → (g ≡ StartValues) ⊎ (g ≡ AllValues) → r ≡ n T → r ≡ step_clauses T (number_of_family g)
   unfolding step_clauses items_of clauses_of
   step_variables g r e h = ⊎_elim (λ e. rw e (omega (arith, sum_to-const (n T) 1))) (λ e. rw e (omega (arith, sum_to-const (n T) 1))) e
 
   module _ (g : Family) (r : ℕ) where
-    pub step_goals : g ≡ GoalPairs → r ≡ length T.goal → r ≡ step_clauses T (family_number g)
+    pub step_goals : g ≡ GoalPairs → r ≡ length T.goal → r ≡ step_clauses T (number_of_family g)
     unfolding step_clauses items_of clauses_of
     step_goals e h = rw e (omega (arith, sum_to-const (length T.goal) 1))
 
-    pub step_values : (x : ℕ) → g ≡ TwoValues → x ≡ n T → r ≡ value_pairs_before T x → r ≡ step_clauses T (family_number g)
+    pub step_values : (x : ℕ) → g ≡ TwoValues → x ≡ n T → r ≡ value_pairs_before T x → r ≡ step_clauses T (number_of_family g)
     unfolding step_clauses items_of clauses_of value_pairs_before
     step_values x e i h = rw e (h ∙ ap (λ x. sum_to x (λ y. pairs_below (d T y))) i)
 
-    pub step_preconditions : (a : ℕ) → g ≡ PreconditionsHold → a ≡ A T → r ≡ preconditions_before T a → r ≡ step_clauses T (family_number g)
+    pub step_preconditions : (a : ℕ) → g ≡ Preconditions → a ≡ A T → r ≡ preconditions_before T a → r ≡ step_clauses T (number_of_family g)
     unfolding step_clauses items_of clauses_of preconditions_before
     step_preconditions a e i h = rw e (h ∙ ap (λ a. sum_to a (λ b. length (action T b).preconditions)) i)
 
-    pub step_effects : (a : ℕ) → g ≡ EffectsHold → a ≡ A T → r ≡ effects_before T a → r ≡ step_clauses T (family_number g)
+    pub step_effects : (a : ℕ) → g ≡ Effects → a ≡ A T → r ≡ effects_before T a → r ≡ step_clauses T (number_of_family g)
     unfolding step_clauses items_of clauses_of effects_before
     step_effects a e i h = rw e (h ∙ ap (λ a. sum_to a (λ b. length (action T b).effects)) i)
 
-    pub step_stay : g ≡ ValuesStay → r ≡ S T → r ≡ step_clauses T (family_number g)
+    pub step_stay : g ≡ ValuesStay → r ≡ S T → r ≡ step_clauses T (number_of_family g)
     unfolding step_clauses items_of clauses_of
     step_stay e h = rw e h
 
-    pub step_actions : (m : ℕ) → g ≡ TwoActions → m ≡ A T → r ≡ pairs_below m → r ≡ step_clauses T (family_number g)
+    pub step_actions : (m : ℕ) → g ≡ TwoActions → m ≡ A T → r ≡ pairs_below m → r ≡ step_clauses T (number_of_family g)
     unfolding step_clauses items_of clauses_of sum_to
     step_actions m e i h =
         let z : pairs_below (A T) ≡ 0 + pairs_below (A T) = omega arith in rw e (h ∙ ap pairs_below i ∙ z)

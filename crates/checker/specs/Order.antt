@@ -20,8 +20,6 @@ use Rattle.task.specs.Numbers.{at_any_horizon}
 use Rattle.rows.specs.Bits.{counts_true}
 use Rattle.checker.specs.declared.action_pairs.ActionPairs.{ActionPairs}
 use Rattle.checker.specs.declared.action_pairs.ActionPairs.TheVariants.{Preconditions, Effects}
-use Rattle.checker.specs.declared.sizes.Family.{Family}
-use Rattle.checker.specs.declared.sizes.Family.TheVariants.{StartValues, GoalPairs, SomeValue, TwoValues, PreconditionsHold, EffectsHold, ValuesStay, TwoActions}
 
 -- ---- the bits
 
@@ -69,16 +67,6 @@ values_stay = 6
 
 abbrev pub two_actions : ℕ
 two_actions = 7
-
-abbrev pub family_number : Family → ℕ
-family_number StartValues = start_values
-family_number GoalPairs = goal_pairs
-family_number SomeValue = some_value
-family_number TwoValues = two_values
-family_number PreconditionsHold = preconditions_hold
-family_number EffectsHold = effects_hold
-family_number ValuesStay = values_stay
-family_number TwoActions = two_actions
 
 -- the two lists of pairs that an action has, the family of each, and at which step its pairs are named to hold
 abbrev pub pairs_of : ActionPairs → Action → List Pair

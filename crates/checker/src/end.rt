@@ -12,21 +12,21 @@ ghost use Rattle.checker.specs.End.{lent, end_with};
 use crate::schedule::write_schedule;
 use crate::search::{all_clauses, lowest_unmet};
 use rows::words_for;
-use rules::{Phase, Reading, Refusal, Verdict};
+use rules::{Phase, Reading, Refusal};
 use task::filling::fill_index;
 use task::index::INDEX_LENGTH;
 use task::problem::{count_variables, problem_verdict};
 
 // What the status alone decides.
-fn status_verdict(phase: Phase) -> Verdict
+fn status_verdict(phase: Phase) -> Result<(), Refusal>
     ensures { result ≡ ending phase }
 {
     match phase {
-        Phase::NoStatus => Verdict::Refused(Refusal::Unfinished),
-        Phase::SaidUnsatisfiable => Verdict::Refused(Refusal::Unsatisfiable),
-        Phase::SaidUnknown => Verdict::Refused(Refusal::Unknown),
-        Phase::ModelOpen => Verdict::Refused(Refusal::Unfinished),
-        Phase::ModelClosed => Verdict::Accepted,
+        Phase::NoStatus => Err(Refusal::Unfinished),
+        Phase::SaidUnsatisfiable => Err(Refusal::Unsatisfiable),
+        Phase::SaidUnknown => Err(Refusal::Unknown),
+        Phase::ModelOpen => Err(Refusal::Unfinished),
+        Phase::ModelClosed => Ok(()),
     }
 }
 
@@ -37,15 +37,15 @@ fn model_verdict(
     horizon: usize,
     given: &[u64],
     truth: &[u64],
-) -> Verdict
+) -> Result<(), Refusal>
     requires { Indexed file.now index.now × (horizon ≤ max_horizon) }
     ensures { result ≡ judge (model_rules (problem_of file.now horizon) (lent given.now truth.now)) }
 {
     let lowest = lowest_unmet(file, index, horizon, given, truth);
     if lowest < all_clauses(file, index, horizon) {
-        return Verdict::Refused(Refusal::UnmetClause(lowest));
+        return Err(Refusal::UnmetClause(lowest));
     }
-    Verdict::Accepted
+    Ok(())
 }
 
 // There is room for the rows and the entries.
@@ -74,17 +74,14 @@ fn end_verdict(
     given: &[u64],
     truth: &[u64],
     room: usize,
-) -> Verdict
+) -> Result<(), Refusal>
     requires { Indexed file.now index.now × (horizon ≤ max_horizon) }
     ensures { result ≡ end_with file.now horizon phase (lent given.now truth.now) room }
 {
     if !room_fits(file, index, horizon, given, truth, room) {
-        return Verdict::Refused(Refusal::Room);
+        return Err(Refusal::Room);
     }
-    let status = status_verdict(phase);
-    let Verdict::Accepted = status else {
-        return status;
-    };
+    status_verdict(phase)?;
     model_verdict(file, index, horizon, given, truth)
 }
 
@@ -96,21 +93,15 @@ pub fn finish(
     given: &[u64],
     truth: &[u64],
     entries: &mut [u32],
-) -> Verdict
+) -> Result<(), Refusal>
     ensures value { result ≡ end_verdict file.now horizon reading.phase (lent given.now truth.now) entries.old }
     ensures entries_after { entries.new ≡ end_entries file.now horizon reading.phase (lent given.now truth.now) entries.old }
 {
-    let problem = problem_verdict(file, horizon);
-    let Verdict::Accepted = problem else {
-        return problem;
-    };
+    problem_verdict(file, horizon)?;
     let mut index = [0u16; INDEX_LENGTH];
     fill_index(file, &mut index);
     let phase = reading.phase;
-    let verdict = end_verdict(file, &index, horizon, phase, given, truth, entries.len());
-    let Verdict::Accepted = verdict else {
-        return verdict;
-    };
+    end_verdict(file, &index, horizon, phase, given, truth, entries.len())?;
     write_schedule(file, &index, horizon, given, truth, entries);
-    Verdict::Accepted
+    Ok(())
 }

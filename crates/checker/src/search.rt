@@ -7,15 +7,17 @@ ghost use Rattle.rules.specs.File.{task_of};
 ghost use Rattle.rules.specs.Families.{C};
 ghost use Rattle.rules.specs.Calls.{problem_of};
 ghost use Rattle.task.specs.Index.{Indexed};
+ghost use Rattle.task.specs.Families.{number_of_family};
 ghost use Rattle.rows.specs.Lent.{lent};
-ghost use Rattle.checker.specs.Order.{is_unmet, steps_of, clauses_of, step_clauses, Reached, Come, family_number};
+ghost use Rattle.checker.specs.Order.{is_unmet, steps_of, clauses_of, step_clauses, Reached, Come};
 
 use crate::families::{
     effect_clauses, goal_clause, precondition_clauses, some_value_clause, start_clause,
     two_actions_clauses, two_values_clauses,
 };
-use crate::sizes::{FAMILIES, Family, clauses_of, items_of, step_clauses, steps_of};
+use crate::sizes::{clauses_of, items_of, step_clauses, steps_of};
 use crate::stays::stay_clauses;
+use task::family::{FAMILIES, Family};
 
 // The lowest unmet clause up to the end of an item.
 fn in_item(
@@ -29,18 +31,18 @@ fn in_item(
     i: usize,
     at: usize,
 ) -> usize
-    requires { Come file.now index.now (lent given.now truth.now) horizon (family_number family) step i at }
-    ensures { result ≡ first (at + clauses_of (task_of file.now) (family_number family) i) (is_unmet file.now horizon (lent given.now truth.now)) }
+    requires { Come file.now index.now (lent given.now truth.now) horizon (number_of_family family) step i at }
+    ensures { result ≡ first (at + clauses_of (task_of file.now) (number_of_family family) i) (is_unmet file.now horizon (lent given.now truth.now)) }
 {
     match family {
         Family::StartValues => start_clause(file, index, horizon, given, truth, i, at),
         Family::GoalPairs => goal_clause(file, index, horizon, given, truth, i, at),
-        Family::SomeValue => some_value_clause(file, index, horizon, given, truth, step, i, at),
+        Family::AllValues => some_value_clause(file, index, horizon, given, truth, step, i, at),
         Family::TwoValues => two_values_clauses(file, index, horizon, given, truth, step, i, at),
-        Family::PreconditionsHold => {
+        Family::Preconditions => {
             precondition_clauses(file, index, horizon, given, truth, step, i, at)
         }
-        Family::EffectsHold => effect_clauses(file, index, horizon, given, truth, step, i, at),
+        Family::Effects => effect_clauses(file, index, horizon, given, truth, step, i, at),
         Family::ValuesStay => stay_clauses(file, index, horizon, given, truth, step, i, at),
         Family::TwoActions => two_actions_clauses(file, index, horizon, given, truth, step, at),
     }
@@ -57,8 +59,8 @@ fn in_step(
     step: usize,
     start: usize,
 ) -> usize
-    requires { Reached file.now index.now (lent given.now truth.now) horizon (family_number family) step 0 start × (step < steps_of horizon (family_number family)) }
-    ensures { result ≡ first (start + step_clauses (task_of file.now) (family_number family)) (is_unmet file.now horizon (lent given.now truth.now)) }
+    requires { Reached file.now index.now (lent given.now truth.now) horizon (number_of_family family) step 0 start × (step < steps_of horizon (number_of_family family)) }
+    ensures { result ≡ first (start + step_clauses (task_of file.now) (number_of_family family)) (is_unmet file.now horizon (lent given.now truth.now)) }
 {
     let items = items_of(file, index, family);
     let mut at = start;
@@ -83,8 +85,8 @@ fn in_family(
     family: Family,
     start: usize,
 ) -> usize
-    requires { Reached file.now index.now (lent given.now truth.now) horizon (family_number family) 0 0 start }
-    ensures { result ≡ first (start + steps_of horizon (family_number family) * step_clauses (task_of file.now) (family_number family)) (is_unmet file.now horizon (lent given.now truth.now)) }
+    requires { Reached file.now index.now (lent given.now truth.now) horizon (number_of_family family) 0 0 start }
+    ensures { result ≡ first (start + steps_of horizon (number_of_family family) * step_clauses (task_of file.now) (number_of_family family)) (is_unmet file.now horizon (lent given.now truth.now)) }
 {
     let steps = steps_of(horizon, family);
     let width = step_clauses(file, index, family);
@@ -103,7 +105,7 @@ fn in_family(
 // How many clauses a family has.
 fn family_clauses(file: &[u8], index: &[u16], horizon: usize, family: Family) -> usize
     requires { Indexed file.now index.now × (horizon ≤ max_horizon) }
-    ensures { result ≡ steps_of horizon (family_number family) * step_clauses (task_of file.now) (family_number family) }
+    ensures { result ≡ steps_of horizon (number_of_family family) * step_clauses (task_of file.now) (number_of_family family) }
 {
     steps_of(horizon, family) * step_clauses(file, index, family)
 }

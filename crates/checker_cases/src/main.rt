@@ -5,7 +5,7 @@
 
 ghost use Rattle.std.specs.Prelude.{◌<◌, ◌≤◌};
 
-use rules::{Phase, Reading, Verdict};
+use rules::{Phase, Reading, Refusal};
 use showing::print_verdict;
 use std::io;
 
@@ -41,7 +41,7 @@ fn is_accepted(file: &[u8], horizon: usize, given: u64, truth: u64) -> bool {
         phase: Phase::ModelClosed,
     };
     let verdict = checker::end::finish(file, horizon, reading, &[given], &[truth], &mut entries);
-    matches!(verdict, Verdict::Accepted)
+    matches!(verdict, Ok(()))
 }
 
 // How many of the first models, by their row, are accepted.

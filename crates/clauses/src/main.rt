@@ -14,11 +14,10 @@ use formula::families::count_clauses;
 use printing::refusal_line;
 use reader::contents::byte_at;
 use reader::limits::MAX_FILE;
-use rules::Verdict;
 use task::filling::fill_index;
 use task::index::INDEX_LENGTH;
 use task::problem::problem_verdict;
-use text::calls::{TextAnswer, header_indexed, lines_indexed};
+use text::calls::{header_indexed, lines_indexed};
 
 // Standard input, by its number.
 const STDIN_FILENO: i32 = 0;
@@ -44,12 +43,11 @@ fn print_lines(file: &[u8], index: &[u16], horizon: usize, out: &mut [u8]) -> us
     let mut c = 0;
     // A `while`: the clause jumps behind the lines that fitted.
     while c < all {
-        let TextAnswer::Written { lines, bytes } = lines_indexed(file, index, horizon, c, out)
-        else {
+        let Ok(run) = lines_indexed(file, index, horizon, c, out) else {
             return c;
         };
-        io::write_all(STDOUT_FILENO, &out[..bytes]);
-        c += lines;
+        io::write_all(STDOUT_FILENO, &out[..run.bytes]);
+        c += run.lines;
     }
     c
 }
@@ -59,11 +57,11 @@ fn print_formula(file: &[u8], index: &[u16], horizon: usize, out: &mut [u8]) -> 
     requires { Indexed file.now index.now × (horizon ≤ max_horizon) × (line_room ≤ length out.old) }
     ensures { result ≡ suc (C (problem_of file.now horizon)) }
 {
-    let TextAnswer::Written { lines, bytes } = header_indexed(file, index, horizon, out) else {
+    let Ok(run) = header_indexed(file, index, horizon, out) else {
         return 0;
     };
-    io::write_all(STDOUT_FILENO, &out[..bytes]);
-    lines + print_lines(file, index, horizon, out)
+    io::write_all(STDOUT_FILENO, &out[..run.bytes]);
+    run.lines + print_lines(file, index, horizon, out)
 }
 
 // The text of a file at a horizon, or the line of a refusal: how many lines were made and printed.
@@ -72,7 +70,7 @@ fn print_answer(file: &[u8], horizon: usize, out: &mut [u8]) -> usize
     ensures { result ≡ lines_printed (problem_verdict file.now horizon) (C (problem_of file.now horizon)) }
 {
     let verdict = problem_verdict(file, horizon);
-    if let Verdict::Refused(why) = verdict {
+    if let Err(why) = verdict {
         let bytes = refusal_line(out, why);
         io::write_all(STDOUT_FILENO, &out[..bytes]);
         return REFUSAL_LINES;

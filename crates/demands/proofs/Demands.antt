@@ -1,6 +1,7 @@
 -- Demands 2 and 3 over the functions' own answers: over any calls that kept their promises of `formula::calls::counts` and `literals`, of
 -- `checker::end::finish`, the end of a reading, and of `schedule::way_back`. Proved.antt proves both, for every accepted file and every horizon from 0 to 64.
 -- Assumes nothing.
+use Rattle.std.specs.Prelude.{Ok, Err}
 use mathlib.Core.Path.{◌≡◌}
 use mathlib.Core.Logic.{◌↔◌}
 use mathlib.Core.Bool.{true}
@@ -24,16 +25,12 @@ use Rattle.rules.specs.Walk.{CarriedOut, is_plan}
 use Rattle.rules.specs.Readings.{schedule_of, rows_holding, rows_of}
 use Rattle.rules.specs.Lines.{rows_fit}
 use Rattle.rules.specs.Calls.{problem_of}
-use Rattle.rules.specs.declared.Verdict.{Verdict}
+use Rattle.rules.specs.Answers.{Verdict}
 use Rattle.rules.specs.declared.Refusal.TheVariants.{UnmetClause}
-use Rattle.rules.specs.declared.Verdict.TheVariants.{Accepted, Refused}
 use Rattle.rules.specs.declared.Phase.{Phase}
 use Rattle.rules.specs.declared.Phase.TheVariants.{ModelClosed}
 use Rattle.rules.proofs.Endings.{ModelHolds, LowestUnmet}
 use Rattle.rules.proofs.Unnamed.{Unnamed}
-use Rattle.formula.specs.declared.calls.CountsAnswer.{CountsAnswer}
-use Rattle.formula.specs.declared.calls.CountsAnswer.TheVariants.{Found}
-use Rattle.formula.specs.declared.calls.LiteralsAnswer.{LiteralsAnswer}
 use Rattle.formula.proofs.Demand.{words_of}
 use Rattle.formula.proofs.calls.counts.Kinds as counts-kinds
 use Rattle.formula.proofs.calls.counts.Reads as counts
@@ -44,6 +41,7 @@ use Rattle.checker.proofs.end.finish.Kinds as finish-kinds
 use Rattle.checker.proofs.end.finish.Reads as finish
 use Rattle.schedule.proofs.way_back.Kinds as back-kinds
 use Rattle.schedule.proofs.way_back.Reads as way_back
+use Rattle.formula.specs.Said.{CountsAnswer, found, LiteralsAnswer}
 
 -- ---- the calls
 
@@ -113,34 +111,34 @@ module _ (file : List ℕ) (k : ℕ) where
         → table (C P) (λ c. words_of (answer c) (after c))
         ≡ map (map signed) (joined (family1 P ∷ family2 P ∷ family3 P ∷ family4 P ∷ family5 P ∷ family6 P ∷ family7 P ∷ family8 P ∷ []))
     pub counted : (answer : CountsAnswer) → Counted file k answer
-        → answer ≡ Found (k * (S (task_of file) + A (task_of file)) + S (task_of file)) (sum (count_table (task_of file) k))
+        → answer ≡ found (k * (S (task_of file) + A (task_of file)) + S (task_of file)) (sum (count_table (task_of file) k))
     pub model : (rows : Rows) (entries after : List ℕ) (verdict : Verdict) → Ended file k ModelClosed rows entries verdict after
-        → Enough rows entries → (verdict ≡ Accepted) ↔ (satisfies (model_in rows) (formula P) ≡ true)
+        → Enough rows entries → (verdict ≡ Ok tt) ↔ (satisfies (model_in rows) (formula P) ≡ true)
     pub refused : (rows : Rows) (entries after : List ℕ) (verdict : Verdict) (c : ℕ) → Ended file k ModelClosed rows entries verdict after
-        → Enough rows entries → (verdict ≡ Refused (UnmetClause c)) ↔ LowestUnmet P rows c
-    pub nothing_else : (phase : Phase) (rows : Rows) (entries after : List ℕ) → Ended file k phase rows entries Accepted after → ModelHolds P phase rows
-    pub left_unnamed : (phase : Phase) (rows : Rows) (entries after : List ℕ) → Ended file k phase rows entries Accepted after
+        → Enough rows entries → (verdict ≡ Err (UnmetClause c)) ↔ LowestUnmet P rows c
+    pub nothing_else : (phase : Phase) (rows : Rows) (entries after : List ℕ) → Ended file k phase rows entries (Ok tt) after → ModelHolds P phase rows
+    pub left_unnamed : (phase : Phase) (rows : Rows) (entries after : List ℕ) → Ended file k phase rows entries (Ok tt) after
         → Unnamed (task_of file) k (model_in rows)
-    pub becomes_schedule : (phase : Phase) (rows : Rows) (entries after : List ℕ) → Ended file k phase rows entries Accepted after
+    pub becomes_schedule : (phase : Phase) (rows : Rows) (entries after : List ℕ) → Ended file k phase rows entries (Ok tt) after
         → after ≡ schedule_of P (assigned (completion P (model_in rows))) ++ drop k entries
     pub schedule : (entries : List ℕ) (rows after : Rows) (verdict : Verdict) → WentBack file k entries rows verdict after
-        → Enough rows entries → (verdict ≡ Accepted) ↔ CarriedOut (task_of file) k entries
-    pub becomes_model : (entries : List ℕ) (rows after : Rows) → WentBack file k entries rows Accepted after → after ≡ rows_of P entries rows
+        → Enough rows entries → (verdict ≡ Ok tt) ↔ CarriedOut (task_of file) k entries
+    pub becomes_model : (entries : List ℕ) (rows after : Rows) → WentBack file k entries rows (Ok tt) after → after ≡ rows_of P entries rows
 
   -- Demand 3: the way back of what the end wrote is the completion of the model that it read; the end accepts what the way back wrote and gives the
   -- schedule again; no two completions share a schedule; and a model is accepted exactly when a plan of at most k moves exists
   pub record Demand3 : Type 1 where
     pub end_then_back : (phase : Phase) (rows before after : Rows) (entries written : List ℕ) (verdict : Verdict)
-        → Ended file k phase rows entries Accepted written → WentBack file k written before verdict after → rows_fit (N P) before ≡ true
-        → (verdict ≡ Accepted) × (after ≡ rows_holding P (completion P (model_in rows)) before)
+        → Ended file k phase rows entries (Ok tt) written → WentBack file k written before verdict after → rows_fit (N P) before ≡ true
+        → (verdict ≡ Ok tt) × (after ≡ rows_holding P (completion P (model_in rows)) before)
     pub back_then_end : (entries lent after : List ℕ) (rows written : Rows) (verdict : Verdict)
-        → WentBack file k entries rows Accepted written → Ended file k ModelClosed written lent verdict after → k ≤ length lent
-        → (verdict ≡ Accepted) × (take k after ≡ take k entries)
+        → WentBack file k entries rows (Ok tt) written → Ended file k ModelClosed written lent verdict after → k ≤ length lent
+        → (verdict ≡ Ok tt) × (take k after ≡ take k entries)
     pub no_two : (phase phase' : Phase) (rows rows' : Rows) (entries entries' after after' : List ℕ)
-        → Ended file k phase rows entries Accepted after → Ended file k phase' rows' entries' Accepted after'
+        → Ended file k phase rows entries (Ok tt) after → Ended file k phase' rows' entries' (Ok tt) after'
         → take k after ≡ take k after' → completion P (model_in rows) ≡ completion P (model_in rows')
-    pub plan_of_model : (phase : Phase) (rows : Rows) (entries after : List ℕ) → Ended file k phase rows entries Accepted after
+    pub plan_of_model : (phase : Phase) (rows : Rows) (entries after : List ℕ) → Ended file k phase rows entries (Ok tt) after
         → (moves : List ℕ) × (length moves ≤ k) × (is_plan (task_of file) moves ≡ true)
     pub model_of_plan : (moves : List ℕ) → length moves ≤ k → is_plan (task_of file) moves ≡ true
         → (rows : Rows) × ModelHolds P ModelClosed rows
-        × ((entries after : List ℕ) (verdict : Verdict) → Ended file k ModelClosed rows entries verdict after → k ≤ length entries → verdict ≡ Accepted)
+        × ((entries after : List ℕ) (verdict : Verdict) → Ended file k ModelClosed rows entries verdict after → k ≤ length entries → verdict ≡ Ok tt)

@@ -1,5 +1,6 @@
 -- Demands 2 and 3 over the functions' own answers hold, for every accepted file and every horizon from 0 to 64.
 -- Assumes nothing.
+use Rattle.std.specs.Prelude.{Ok}
 use mathlib.Core.Path.{◌≡◌, refl, sym, ap, ◌∙◌}
 use mathlib.Core.Bool.{true}
 use mathlib.Core.List.{List, [], ◌∷◌, ◌++◌, map}
@@ -21,12 +22,10 @@ use Rattle.rules.specs.Rows.{Rows, words_for}
 use Rattle.rules.specs.Truth.{model_in, completion}
 use Rattle.rules.specs.Walk.{CarriedOut}
 use Rattle.rules.specs.Readings.{schedule_of, assignment_of, rows_of}
-use Rattle.rules.specs.Answers.{judge, in_turn}
+use Rattle.rules.specs.Answers.{judge, in_turn, Verdict}
 use Rattle.rules.specs.Lines.{rows_fit}
 use Rattle.rules.specs.Output.{outcome}
 use Rattle.rules.specs.Calls.{problem_of, problem_verdict, lent_rules, end_verdict, end_entries, back_verdict, back_rows}
-use Rattle.rules.specs.declared.Verdict.{Verdict}
-use Rattle.rules.specs.declared.Verdict.TheVariants.{Accepted}
 use Rattle.rules.specs.declared.Phase.{Phase}
 use Rattle.rules.specs.declared.Phase.TheVariants.{ModelClosed}
 use Rattle.rules.proofs.Endings.{ModelHolds, accepted_holds, seventeen}
@@ -38,16 +37,12 @@ use Rattle.rules.proofs.Plans.{moves_of, moves_most, schedule_plan, padded, leng
 use Rattle.rules.proofs.Completed.{completed_schedule, model_good, model_back}
 use Rattle.rules.proofs.Proved as Rules
 use Rattle.rules.proofs.Valid.{WellFormed}
-use Rattle.rules.proofs.Files.{accepted_well_formed}
+use Rattle.rules.proofs.Files.{accepted_well_formed, accepted_valid}
 use Rattle.rules.proofs.AtCalls.{CallsAnswer, CallsPair, within, lent_enough, calls_answer, calls_pair}
-use Rattle.formula.specs.declared.calls.CountsAnswer.{CountsAnswer}
-use Rattle.formula.specs.declared.calls.CountsAnswer.TheVariants.{Found}
-use Rattle.formula.specs.declared.calls.LiteralsAnswer.{LiteralsAnswer}
-use Rattle.formula.specs.Said.{counts_answer}
+use Rattle.formula.specs.Said.{counts_answer, CountsAnswer, found, LiteralsAnswer}
 use Rattle.formula.proofs.Demand.{Promised, the_formula, the_counts}
 use Rattle.schedule.proofs.Answered.{accepts_exactly}
 use Rattle.rules.proofs.Unnamed.{Unnamed, unnamed}
-use Rattle.rules.proofs.Files.{accepted_valid}
 use Rattle.demands.proofs.Demands.{Counted, Spelled, Ended, WentBack, Demand2, Demand3}
 
 -- ---- what the calls gave, by the definitions
@@ -76,7 +71,7 @@ module _ (file : List ℕ) (k : ℕ) (entries : List ℕ) (rows : Rows) (verdict
 
 -- ---- the demands
 
-module _ (file : List ℕ) (fine : file_verdict file ≡ Accepted) (k : ℕ) (small : k ≤ max_horizon) where
+module _ (file : List ℕ) (fine : file_verdict file ≡ Ok tt) (k : ℕ) (small : k ≤ max_horizon) where
   abbrev T : Task
   T = task_of file
 
@@ -92,7 +87,7 @@ module _ (file : List ℕ) (fine : file_verdict file ≡ Accepted) (k : ℕ) (sm
   pair : CallsPair file k
   pair = calls_pair file fine k small
 
-  stated : problem_verdict file k ≡ Accepted
+  stated : problem_verdict file k ≡ Ok tt
   unfolding problem_verdict
   stated = within file fine k small
 
@@ -101,9 +96,9 @@ module _ (file : List ℕ) (fine : file_verdict file ≡ Accepted) (k : ℕ) (sm
   unfolding problem_of
   in_order = (Rules.demand2 T k).in_order
 
-  true_counts : Found (N P) (C P) ≡ Found (k * (S T + A T) + S T) (sum (count_table T k))
+  true_counts : found (N P) (C P) ≡ found (k * (S T + A T) + S T) (sum (count_table T k))
   unfolding problem_of N
-  true_counts = ap (Found (N P)) (C-is T k)
+  true_counts = ap (found (N P)) (C-is T k)
 
   -- where enough is lent, a closed model's verdict is what its clauses say
   closed_verdict : (rows : Rows) (entries : List ℕ) → rows_fit (N P) rows ≡ true → k ≤ length entries
@@ -113,13 +108,13 @@ module _ (file : List ℕ) (fine : file_verdict file ≡ Accepted) (k : ℕ) (sm
 
   -- ---- an end that was accepted
 
-  end_holds : (phase : Phase) (rows : Rows) (entries : List ℕ) → end_verdict file k phase rows entries ≡ Accepted → ModelHolds P phase rows
+  end_holds : (phase : Phase) (rows : Rows) (entries : List ℕ) → end_verdict file k phase rows entries ≡ Ok tt → ModelHolds P phase rows
   unfolding end_verdict
   end_holds phase rows entries h = accepted_holds P rows phase (in_turn-right (judge (lent_rules file k rows entries)) _ h)
 
-  module _ (phase : Phase) (rows : Rows) (entries after : List ℕ) (e : Ended file k phase rows entries Accepted after) where
+  module _ (phase : Phase) (rows : Rows) (entries after : List ℕ) (e : Ended file k phase rows entries (Ok tt) after) where
     holds : ModelHolds P phase rows
-    holds = end_holds phase rows entries (ended_verdict file k phase rows entries Accepted after e)
+    holds = end_holds phase rows entries (ended_verdict file k phase rows entries (Ok tt) after e)
 
     left : Unnamed T k (model_in rows)
     unfolding problem_of
@@ -127,8 +122,8 @@ module _ (file : List ℕ) (fine : file_verdict file ≡ Accepted) (k : ℕ) (sm
 
     writes : after ≡ schedule_of P (model_in rows) ++ drop k entries
     writes =
-        ended_entries file k phase rows entries Accepted after e
-        ∙ answers.becomes_schedule phase rows entries (ended_verdict file k phase rows entries Accepted after e)
+        ended_entries file k phase rows entries (Ok tt) after e
+        ∙ answers.becomes_schedule phase rows entries (ended_verdict file k phase rows entries (Ok tt) after e)
 
     size : length (schedule_of P (model_in rows)) ≡ k
     unfolding problem_of
@@ -148,13 +143,13 @@ module _ (file : List ℕ) (fine : file_verdict file ≡ Accepted) (k : ℕ) (sm
 
   -- ---- a way back that was accepted
 
-  module _ (entries : List ℕ) (rows after : Rows) (e : WentBack file k entries rows Accepted after) where
+  module _ (entries : List ℕ) (rows after : Rows) (e : WentBack file k entries rows (Ok tt) after) where
     model_written : after ≡ rows_of P entries rows
     model_written =
-        back_rows_lem file k entries rows Accepted after e ∙ answers.becomes_model entries rows (back_verdict_lem file k entries rows Accepted after e)
+        back_rows_lem file k entries rows (Ok tt) after e ∙ answers.becomes_model entries rows (back_verdict_lem file k entries rows (Ok tt) after e)
 
     enough_entries : k ≤ length entries
-    enough_entries = rw (e.horizon_is, e.entries_are) at ((accepts_exactly e.κs e.a Accepted e.x e.promised).0 refl).entries_there
+    enough_entries = rw (e.horizon_is, e.entries_are) at ((accepts_exactly e.κs e.a (Ok tt) e.x e.promised).0 refl).entries_there
 
   pub demand2 : Demand2 file k
   demand2 =
@@ -196,13 +191,13 @@ module _ (file : List ℕ) (fine : file_verdict file ≡ Accepted) (k : ℕ) (sm
   demand3 =
       record {
         end_then_back = λ phase rows before after entries written verdict e b fit.
-            let back = pair.end_then_back phase rows before entries fit (ended_verdict file k phase rows entries Accepted written e) in
-            let is : written ≡ end_entries file k phase rows entries = ended_entries file k phase rows entries Accepted written e in
-            let accepted : verdict ≡ Accepted = sym (back_verdict_lem file k written before verdict after b) ∙ ap (λ w. back_verdict file k w before) is ∙ back.0 in
+            let back = pair.end_then_back phase rows before entries fit (ended_verdict file k phase rows entries (Ok tt) written e) in
+            let is : written ≡ end_entries file k phase rows entries = ended_entries file k phase rows entries (Ok tt) written e in
+            let accepted : verdict ≡ Ok tt = sym (back_verdict_lem file k written before verdict after b) ∙ ap (λ w. back_verdict file k w before) is ∙ back.0 in
             (accepted, back_rows_lem file k written before verdict after b ∙ ap (λ w. back_rows file k w before) is ∙ back.1);
         back_then_end = λ entries lent after rows written verdict b e l.
-            let end = pair.back_then_end rows entries lent l (enough_entries entries rows written b) (back_verdict_lem file k entries rows Accepted written b) in
-            let is : written ≡ back_rows file k entries rows = back_rows_lem file k entries rows Accepted written b in (
+            let end = pair.back_then_end rows entries lent l (enough_entries entries rows written b) (back_verdict_lem file k entries rows (Ok tt) written b) in
+            let is : written ≡ back_rows file k entries rows = back_rows_lem file k entries rows (Ok tt) written b in (
               sym (ended_verdict file k ModelClosed written lent verdict after e) ∙ ap (λ r. end_verdict file k ModelClosed r lent) is ∙ end.0,
               ap (take k) (ended_entries file k ModelClosed written lent verdict after e ∙ ap (λ r. end_entries file k ModelClosed r lent) is) ∙ end.1,
             );
@@ -219,7 +214,7 @@ module _ (file : List ℕ) (fine : file_verdict file ≡ Accepted) (k : ℕ) (sm
             let size : k ≤ length schedule = omega (arith, length-padded T k moves l) in
             let back = (answers.schedule schedule blank blank_fits size).1 (plan_schedule T k moves l p) in
             let rows = back_rows file k schedule blank in
-            let accepted : (entries : List ℕ) → k ≤ length entries → end_verdict file k ModelClosed rows entries ≡ Accepted =
+            let accepted : (entries : List ℕ) → k ≤ length entries → end_verdict file k ModelClosed rows entries ≡ Ok tt =
             λ entries enough. (pair.back_then_end blank schedule entries enough size back).0 in (
               rows,
               end_holds ModelClosed rows schedule (accepted schedule size),

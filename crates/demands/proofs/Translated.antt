@@ -1,6 +1,7 @@
 -- The translator's text over the functions' own answers: over any calls that kept their promises of `translator::translate` and of
 -- `reader::file::file_verdict`. The file that was written is accepted by the file reader and states the text's own task; a refusal changed nothing.
 -- Assumes nothing.
+use Rattle.std.specs.Prelude.{Ok, Err}
 use mathlib.Core.Path.{◌≡◌, refl, sym, ap, ◌∙◌}
 use mathlib.Core.List.{List}
 use Prim.Native.Nat.{ℕ, suc}
@@ -14,13 +15,11 @@ use Rattle.rules.specs.File.{task_of, file_of, file_verdict}
 use Rattle.rules.specs.Calls.{lent_after}
 use Rattle.rules.specs.Translation.{text_task, translation_verdict, translation_after}
 use Rattle.rules.specs.declared.Refusal.{Refusal}
-use Rattle.rules.specs.declared.Verdict.{Verdict}
-use Rattle.rules.specs.declared.Verdict.TheVariants.{Accepted, Refused}
+use Rattle.rules.specs.Answers.{Verdict}
 use Rattle.rules.proofs.Translated.{Translated, translated}
 use Rattle.reader.proofs.file.file_verdict.Kinds as verdict-kinds
 use Rattle.reader.proofs.file.file_verdict.Reads as file-verdict
-use Rattle.translator.specs.Intake.{translation}
-use Rattle.translator.specs.declared.intake.Translation.{Translation}
+use Rattle.translator.specs.Intake.{translation, Translation}
 use Rattle.translator.proofs.translate.Kinds as translate-kinds
 use Rattle.translator.proofs.translate.Reads as translate
 
@@ -49,27 +48,27 @@ pub record FileJudged (file : List ℕ) (verdict : Verdict) : Type 1 where
 -- the file that was written, so many bytes of the room, is accepted by the file reader, and states the task that the text states
 pub record Written (text after : List ℕ) (bytes : ℕ) : Type 1 where
   pub is_the_file : take bytes after ≡ file_of (text_task text)
-  pub accepted : (v : Verdict) → FileJudged (take bytes after) v → v ≡ Accepted
+  pub accepted : (v : Verdict) → FileJudged (take bytes after) v → v ≡ Ok tt
   pub states_it : task_of (take bytes after) ≡ text_task text
 
 -- ---- their proofs
 
 -- how many bytes an answer says were written, counted from 1; 0 for a refusal
 abbrev said : Translation → ℕ
-said (Translation.Written bytes) = suc bytes
-said (Translation.Refused why) = 0
+said (Ok bytes) = suc bytes
+said (Err why) = 0
 
-accepted_writes : (v : Verdict) (file room after : List ℕ) (bytes : ℕ) → Translation.Written bytes ≡ translation v (length file) → after ≡ lent_after v file room
-    → (v ≡ Accepted) × (take bytes after ≡ file)
-accepted_writes Accepted file room after bytes e f =
+accepted_writes : (v : Verdict) (file room after : List ℕ) (bytes : ℕ) → Ok bytes ≡ translation v (length file) → after ≡ lent_after v file room
+    → (v ≡ Ok tt) × (take bytes after ≡ file)
+accepted_writes (Ok _) file room after bytes e f =
     let many : suc bytes ≡ suc (length file) = ap said e in
     (refl, ap (take bytes) f ∙ take_at file (drop (length file) room) bytes (omega arith))
-accepted_writes (Refused why) file room after bytes e f = let none : suc bytes ≡ 0 = ap said e in absurd (omega arith)
+accepted_writes (Err why) file room after bytes e f = let none : suc bytes ≡ 0 = ap said e in absurd (omega arith)
 
-refused_leaves : (v : Verdict) (file room after : List ℕ) (why : Refusal) → Translation.Refused why ≡ translation v (length file) → after ≡ lent_after v file room
+refused_leaves : (v : Verdict) (file room after : List ℕ) (why : Refusal) → Err why ≡ translation v (length file) → after ≡ lent_after v file room
     → after ≡ room
-refused_leaves Accepted file room after why e f = let some : 0 ≡ suc (length file) = ap said e in absurd (omega arith)
-refused_leaves (Refused other) file room after why e f = f
+refused_leaves (Ok _) file room after why e f = let some : 0 ≡ suc (length file) = ap said e in absurd (omega arith)
+refused_leaves (Err other) file room after why e f = f
 
 answered : (text room : List ℕ) (answer : Translation) (after : List ℕ) → TextTranslated text room answer after
     → (answer ≡ translation (translation_verdict text (length room)) (length (file_of (text_task text)))) × (after ≡ translation_after text room)
@@ -78,10 +77,10 @@ answered text room answer after t = rw (sym t.text_is, sym t.room_is, sym t.afte
 judged : (file : List ℕ) (v : Verdict) → FileJudged file v → v ≡ file_verdict file
 judged file v j = rw (sym j.file_is) j.promised
 
-pub written : (text room after : List ℕ) (bytes : ℕ) → TextTranslated text room (Translation.Written bytes) after → Written text after bytes
+pub written : (text room after : List ℕ) (bytes : ℕ) → TextTranslated text room (Ok bytes) after → Written text after bytes
 unfolding translation_after
 written text room after bytes t =
-    let promised = answered text room (Translation.Written bytes) after t in
+    let promised = answered text room (Ok bytes) after t in
     let facts = accepted_writes (translation_verdict text (length room)) (file_of (text_task text)) room after bytes promised.0 promised.1 in
     let page : Translated text room = translated text room facts.0 in
     record {
@@ -90,8 +89,8 @@ written text room after bytes t =
       states_it = ap task_of facts.1 ∙ page.states_it;
     }
 
-pub refused : (text room after : List ℕ) (why : Refusal) → TextTranslated text room (Translation.Refused why) after → after ≡ room
+pub refused : (text room after : List ℕ) (why : Refusal) → TextTranslated text room (Err why) after → after ≡ room
 unfolding translation_after
 refused text room after why t =
-    let promised = answered text room (Translation.Refused why) after t in
+    let promised = answered text room (Err why) after t in
     refused_leaves (translation_verdict text (length room)) (file_of (text_task text)) room after why promised.0 promised.1

@@ -1,5 +1,6 @@
 -- The calls' answers: which rule decides each, in their order.
 -- Assumes nothing.
+use Rattle.std.specs.Prelude.{Ok, Err}
 use mathlib.Core.Path.{◌≡◌, sym, ap, ◌∙◌}
 use mathlib.Core.List.{List, [], ◌∷◌}
 use Prim.Native.Nat.{ℕ, ◌≤◌, ◌<◌}
@@ -9,7 +10,7 @@ use lib.Dec.{ltb}
 use lib.IntN.{ℤ}
 use lib.ListN.{length}
 use Rattle.rules.specs.Limits.{max_horizon}
-use Rattle.rules.specs.Answers.{demand, judge, in_turn}
+use Rattle.rules.specs.Answers.{demand, judge, in_turn, Verdict}
 use Rattle.rules.specs.Problem.{problem}
 use Rattle.rules.specs.Numbering.{N}
 use Rattle.rules.specs.Families.{C, clause}
@@ -17,28 +18,33 @@ use Rattle.rules.specs.File.{task_of}
 use Rattle.rules.specs.Calls.{problem_of, problem_rules, clause_rules, room_rule, lent_after, problem_verdict, clause_signed, clause_verdict}
 use Rattle.rules.specs.declared.Refusal.{Refusal}
 use Rattle.rules.specs.declared.Refusal.TheVariants.{ClauseNumber, Room}
-use Rattle.rules.specs.declared.Verdict.{Verdict}
-use Rattle.rules.specs.declared.Verdict.TheVariants.{Accepted, Refused}
 use Rattle.rules.proofs.Judging.{judge_nil, judge_refused, judge_passed, judge_append}
 use Rattle.task.specs.Index.{Indexed}
 use Rattle.task.proofs.Stated.{problem_accepted}
 use Rattle.digits.proofs.Overs.{over_front}
 use Rattle.formula.specs.declared.place.Place.{Place}
-use Rattle.formula.specs.declared.calls.CountsAnswer.TheVariants as counts
-use Rattle.formula.specs.declared.calls.LiteralsAnswer.TheVariants as literals
 use Rattle.formula.specs.InFamily.{InRange, IsAt}
 use Rattle.formula.specs.Front.{written, clause_written, literal_count}
-use Rattle.formula.specs.Said.{counts_answer, literals_answer}
+use Rattle.formula.specs.Said.{CountsAnswer, found, counts_answer, literals_answer}
+
+-- the two counts of an answer, 0 where it is a refusal
+abbrev pub variables_in : CountsAnswer → ℕ
+variables_in (Ok found) = found.variables
+variables_in (Err why) = 0
+
+abbrev pub clauses_in : CountsAnswer → ℕ
+clauses_in (Ok found) = found.clauses
+clauses_in (Err why) = 0
 
 module _ (file : List ℕ) (k : ℕ) where
   -- ---- refusals 1 to 8
 
   module _ (v : Verdict) (e : v ≡ problem_verdict file k) where
-    pub counts_refused : (why : Refusal) → v ≡ Refused why → counts.Refused why ≡ counts_answer file k
+    pub counts_refused : (why : Refusal) → v ≡ Err why → Err why ≡ counts_answer file k
     unfolding counts_answer
     counts_refused why f = rw (← e, f)
 
-    pub counts_found : (n m : ℕ) → v ≡ Accepted → n ≡ N (problem_of file k) → m ≡ C (problem_of file k) → counts.Found n m ≡ counts_answer file k
+    pub counts_found : (n m : ℕ) → v ≡ Ok tt → n ≡ N (problem_of file k) → m ≡ C (problem_of file k) → found n m ≡ counts_answer file k
     unfolding counts_answer
     counts_found n m f en em = rw (← e, f, en, em)
 
@@ -53,21 +59,21 @@ module _ (file : List ℕ) (k : ℕ) where
         judge_append (clause_rules file k c) _
         ∙ ap (λ v. in_turn v (judge (room_rule (length (clause (problem_of file k) c)) room))) (judge_append (problem_rules file k) _)
 
-    problem_refuses : (why : Refusal) → problem_verdict file k ≡ Refused why → clause_verdict file k c room ≡ Refused why
+    problem_refuses : (why : Refusal) → problem_verdict file k ≡ Err why → clause_verdict file k c room ≡ Err why
     problem_refuses why f = rw (clause_turns, f)
 
-    module _ (f : problem_verdict file k ≡ Accepted) where
-      number_refuses : C (problem_of file k) ≤ c → clause_verdict file k c room ≡ Refused ClauseNumber
+    module _ (f : problem_verdict file k ≡ Ok tt) where
+      number_refuses : C (problem_of file k) ≤ c → clause_verdict file k c room ≡ Err ClauseNumber
       number_refuses h = rw (clause_turns, f, judge_refused (demand (ltb c (C (problem_of file k))) ClauseNumber) [] (le-ltb c _ h))
 
       module _ (h : c < C (problem_of file k)) where
         room_left : clause_verdict file k c room ≡ judge (room_rule (length (clause (problem_of file k) c)) room)
         room_left = rw (clause_turns, f, judge_passed (demand (ltb c (C (problem_of file k))) ClauseNumber) [] (lt-ltb c _ h), judge_nil)
 
-        room_refuses : room < length (clause (problem_of file k) c) → clause_verdict file k c room ≡ Refused Room
+        room_refuses : room < length (clause (problem_of file k) c) → clause_verdict file k c room ≡ Err Room
         room_refuses l = room_left ∙ judge_refused _ [] (lt-leb _ room l)
 
-        pub accepts : length (clause (problem_of file k) c) ≤ room → clause_verdict file k c room ≡ Accepted
+        pub accepts : length (clause (problem_of file k) c) ≤ room → clause_verdict file k c room ≡ Ok tt
         accepts l = room_left ∙ judge_passed _ [] (le-leb _ room l) ∙ judge_nil
 
   -- a refusal by the verdict, in the answer and in lent memory
@@ -75,29 +81,29 @@ module _ (file : List ℕ) (k : ℕ) where
     abbrev left : List ℤ
     left = lent_after (clause_verdict file k c (length lent)) (clause_signed file k c) lent
 
-    said : (why : Refusal) → clause_verdict file k c (length lent) ≡ Refused why → literals.Refused why ≡ literals_answer file k c (length lent)
+    said : (why : Refusal) → clause_verdict file k c (length lent) ≡ Err why → Err why ≡ literals_answer file k c (length lent)
     unfolding literals_answer
     said why e = rw e
 
-    as_found : (why : Refusal) → clause_verdict file k c (length lent) ≡ Refused why → lent ≡ left
+    as_found : (why : Refusal) → clause_verdict file k c (length lent) ≡ Err why → lent ≡ left
     as_found why e = rw e
 
-    module _ (v : Verdict) (why : Refusal) (e : v ≡ problem_verdict file k) (f : v ≡ Refused why) where
-      pub problem_said : literals.Refused why ≡ literals_answer file k c (length lent)
+    module _ (v : Verdict) (why : Refusal) (e : v ≡ problem_verdict file k) (f : v ≡ Err why) where
+      pub problem_said : Err why ≡ literals_answer file k c (length lent)
       problem_said = said why (problem_refuses c (length lent) why (sym e ∙ f))
 
       pub problem_left : lent ≡ left
       problem_left = as_found why (problem_refuses c (length lent) why (sym e ∙ f))
 
     module _ (index : List ℕ) (ix : Indexed file index) (hk : k ≤ max_horizon) (clauses : ℕ) (ec : clauses ≡ C (problem_of file k)) where
-      fine : problem_verdict file k ≡ Accepted
+      fine : problem_verdict file k ≡ Ok tt
       fine = problem_accepted file k ix.accepted hk
 
       module _ (h : clauses ≤ c) where
-        wrong_number : clause_verdict file k c (length lent) ≡ Refused ClauseNumber
+        wrong_number : clause_verdict file k c (length lent) ≡ Err ClauseNumber
         wrong_number = number_refuses c (length lent) fine (omega arith)
 
-        pub number_said : literals.Refused ClauseNumber ≡ literals_answer file k c (length lent)
+        pub number_said : Err ClauseNumber ≡ literals_answer file k c (length lent)
         number_said = said ClauseNumber wrong_number
 
         pub number_left : lent ≡ left
@@ -109,22 +115,22 @@ module _ (file : List ℕ) (k : ℕ) where
         long = el ∙ ap length at.is
 
         module _ (l : length lent < count) where
-          no_room : clause_verdict file k c (length lent) ≡ Refused Room
+          no_room : clause_verdict file k c (length lent) ≡ Err Room
           no_room = room_refuses c (length lent) fine (omega arith) (omega (arith, long))
 
-          pub room_said : literals.Refused Room ≡ literals_answer file k c (length lent)
+          pub room_said : Err Room ≡ literals_answer file k c (length lent)
           room_said = said Room no_room
 
           pub room_as_found : lent ≡ left
           room_as_found = as_found Room no_room
 
         module _ (l : count ≤ length lent) where
-          accepted : clause_verdict file k c (length lent) ≡ Accepted
+          accepted : clause_verdict file k c (length lent) ≡ Ok tt
           accepted = accepts c (length lent) fine (omega arith) (omega (arith, long))
 
-          pub count_said : literals.Count count ≡ literals_answer file k c (length lent)
+          pub count_said : Ok count ≡ literals_answer file k c (length lent)
           unfolding literals_answer
-          count_said = rw accepted (ap literals.Count long)
+          count_said = rw accepted (ap Ok long)
 
           pub clause_left : (out : List ℤ) → out ≡ clause_written file k place lent → out ≡ left
           unfolding clause_written written clause_signed problem_of

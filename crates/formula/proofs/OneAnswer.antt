@@ -3,8 +3,6 @@
 -- Assumes nothing.
 use mathlib.Core.Path.{◌≡◌, sym, ◌∙◌}
 use Prim.Native.Nat.{ℕ}
-use Rattle.formula.specs.declared.calls.CountsAnswer.{CountsAnswer}
-use Rattle.formula.specs.declared.calls.LiteralsAnswer.{LiteralsAnswer}
 use Rattle.formula.proofs.families.width.Reads as width
 use Rattle.formula.proofs.families.count_of.Reads as count_of
 use Rattle.formula.proofs.families.count_clauses.Reads as count-clauses
@@ -13,6 +11,7 @@ use Rattle.formula.proofs.clauses.put_clause.Reads as put-clause
 use Rattle.formula.proofs.calls.counts.Reads as counts
 use Rattle.formula.proofs.calls.literals.Reads as literals
 use Rattle.formula.proofs.calls.literals_indexed.Reads as literals-indexed
+use Rattle.formula.specs.Said.{CountsAnswer, LiteralsAnswer}
 
 -- ---- the calls
 

@@ -5,7 +5,6 @@
 
 ghost use Rattle.std.specs.Prelude.{◌≤◌, length};
 
-use formula::calls::{CountsAnswer, LiteralsAnswer};
 use rules::Refusal;
 use std::io;
 
@@ -43,10 +42,10 @@ fn print_words(rt: &impl Print, words: &[i32]) -> io::Result<()> {
     println!(rt; "")
 }
 
-fn print_answer(rt: &impl Print, answer: LiteralsAnswer) -> io::Result<()> {
+fn print_answer(rt: &impl Print, answer: Result<usize, Refusal>) -> io::Result<()> {
     match answer {
-        LiteralsAnswer::Count(count) => print!(rt; "{count} literals:"),
-        LiteralsAnswer::Refused(why) => {
+        Ok(count) => print!(rt; "{count} literals:"),
+        Err(why) => {
             print_refusal(rt, why)?;
             print!(rt; ":")
         }
@@ -74,10 +73,13 @@ fn print_clause(
 // N and C.
 fn print_counts(rt: &impl Print, file: &[u8], horizon: usize) -> io::Result<()> {
     match formula::calls::counts(file, horizon) {
-        CountsAnswer::Found { variables, clauses } => {
-            println!(rt; "{variables} variables, {clauses} clauses")
+        Ok(counts) => {
+            println!(rt;
+                "{} variables, {} clauses",
+                counts.variables, counts.clauses
+            )
         }
-        CountsAnswer::Refused(why) => {
+        Err(why) => {
             print_refusal(rt, why)?;
             println!(rt; "")
         }

@@ -1,13 +1,11 @@
 -- The ways out of the functions that hand an answer over.
 -- Assumes nothing.
+use Rattle.std.specs.Prelude.{Ok, Err}
 use mathlib.Core.Path.{◌≡◌, refl, ap, ◌∙◌}
 use Prim.Native.Nat.{ℕ}
 use borrow.Author.Tests.{ne_eqb}
-use Rattle.rules.specs.Answers.{answer, answer_of, answer_to, answer_to_line}
+use Rattle.rules.specs.Answers.{answer, answer_of, answer_to, answer_to_line, Verdict, LineAnswer}
 use Rattle.rules.specs.declared.Refusal.{Refusal}
-use Rattle.rules.specs.declared.Verdict.{Verdict}
-use Rattle.rules.specs.declared.Verdict.TheVariants.{Accepted, Refused}
-use Rattle.rules.specs.declared.LineAnswer.{LineAnswer}
 use Rattle.rules.specs.declared.Phase.{Phase}
 use Rattle.rules.specs.declared.Phase.TheVariants.{NoStatus, ModelOpen, ModelClosed, SaidUnsatisfiable, SaidUnknown}
 use Rattle.rules.specs.declared.Reading.{Reading}
@@ -20,10 +18,10 @@ pub refused_is : (why : Refusal) (number detail : ℕ) → number ≡ (answer_of
 refused_is why number detail n d = rw (n, d)
 
 module _ (number detail : ℕ) (v : Verdict) where
-  pub told_accepted : v ≡ Accepted → answer number detail ≡ answer 0 0 → answer number detail ≡ answer_to v
+  pub told_accepted : v ≡ Ok tt → answer number detail ≡ answer 0 0 → answer number detail ≡ answer_to v
   told_accepted e a = rw e a
 
-  pub told_refused : (why : Refusal) → v ≡ Refused why → answer number detail ≡ answer_of why → answer number detail ≡ answer_to v
+  pub told_refused : (why : Refusal) → v ≡ Err why → answer number detail ≡ answer_of why → answer number detail ≡ answer_to v
   told_refused why e a = rw e a
 
   -- what is told of an answer is told of the verdict that it is
@@ -31,19 +29,19 @@ module _ (number detail : ℕ) (v : Verdict) where
   told w e a = a ∙ ap answer_to e
 
 module _ (number detail : ℕ) (line : LineAnswer) where
-  pub told_next : (reading : Reading) → line ≡ LineAnswer.Next reading → answer number detail ≡ answer 0 0 → answer number detail ≡ answer_to_line line
+  pub told_next : (reading : Reading) → line ≡ Ok reading → answer number detail ≡ answer 0 0 → answer number detail ≡ answer_to_line line
   told_next reading e a = rw e a
 
-  pub told_line_refused : (why : Refusal) → line ≡ LineAnswer.Refused why → answer number detail ≡ answer_of why → answer number detail ≡ answer_to_line line
+  pub told_line_refused : (why : Refusal) → line ≡ Err why → answer number detail ≡ answer_of why → answer number detail ≡ answer_to_line line
   told_line_refused why e a = rw e a
 
 -- ---- phases
 
 module _ (line : LineAnswer) (found : ℕ) where
-  pub phase_next : (reading : Reading) (p : ℕ) → line ≡ LineAnswer.Next reading → p ≡ phase_number reading.phase → p ≡ phase_left line found
+  pub phase_next : (reading : Reading) (p : ℕ) → line ≡ Ok reading → p ≡ phase_number reading.phase → p ≡ phase_left line found
   phase_next reading p e n = rw e n
 
-  pub phase_as_found : (why : Refusal) → line ≡ LineAnswer.Refused why → found ≡ phase_left line found
+  pub phase_as_found : (why : Refusal) → line ≡ Err why → found ≡ phase_left line found
   phase_as_found why e = rw e
 
 module _ (m : ℕ) where

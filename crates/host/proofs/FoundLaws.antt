@@ -1,5 +1,6 @@
 -- The ways out of the calls on files and formulas.
 -- Assumes nothing.
+use Rattle.std.specs.Prelude.{Ok, Err}
 use mathlib.Core.Path.{◌≡◌, refl, sym, ap, ◌∙◌}
 use mathlib.Core.Bool.{true, false}
 use mathlib.Core.List.{List}
@@ -10,33 +11,29 @@ use lib.Dec.{ltb}
 use lib.ListN.{length}
 use denote.Ref.{Bor}
 use Rattle.rules.specs.Limits.{contents_rows, contents_bytes}
-use Rattle.rules.specs.Answers.{answer, answer_of, answer_to}
+use Rattle.rules.specs.Answers.{answer, answer_of, answer_to, Verdict}
 use Rattle.rules.specs.File.{body_start, contents_verdict}
 use Rattle.rules.specs.Numbering.{N}
 use Rattle.rules.specs.Families.{C, clause}
 use Rattle.rules.specs.Calls.{problem_of, problem_verdict, clause_verdict}
 use Rattle.rules.specs.declared.Refusal.{Refusal}
-use Rattle.rules.specs.declared.Verdict.{Verdict}
-use Rattle.rules.specs.declared.Verdict.TheVariants.{Accepted, Refused}
 use Rattle.reader.specs.Stretches.{Stretch, start_asked}
 use Rattle.reader.proofs.ReadContents.{contents_there}
-use Rattle.formula.specs.Said.{counts_by, counts_answer, literals_by, literals_answer}
-use Rattle.formula.specs.declared.calls.CountsAnswer.{CountsAnswer}
-use Rattle.formula.specs.declared.calls.CountsAnswer.TheVariants as counts
-use Rattle.formula.specs.declared.calls.LiteralsAnswer.{LiteralsAnswer}
-use Rattle.formula.specs.declared.calls.LiteralsAnswer.TheVariants as literals
+use Rattle.formula.specs.declared.calls.FormulaCounts.{FormulaCounts}
+use Rattle.formula.specs.Said.{counts_by, counts_answer, literals_by, literals_answer, CountsAnswer, LiteralsAnswer}
+use Rattle.formula.proofs.Answered.{variables_in, clauses_in}
 use Rattle.host.specs.Cells.{counted}
 use Rattle.host.proofs.Crossing.{told_accepted, told_refused}
 
 -- ---- where a body starts, and how long it is
 
 module _ (file : List ℕ) (v : Verdict) (e : v ≡ contents_verdict file) where
-  pub start_refused : (b : ℕ) (why : Refusal) → v ≡ Refused why → 0 ≡ start_asked file b
+  pub start_refused : (b : ℕ) (why : Refusal) → v ≡ Err why → 0 ≡ start_asked file b
   unfolding start_asked
-  start_refused b why f = let g : contents_verdict file ≡ Refused why = sym e ∙ f in rw g
+  start_refused b why f = let g : contents_verdict file ≡ Err why = sym e ∙ f in rw g
 
-  module _ (f : v ≡ Accepted) where
-    accepted : contents_verdict file ≡ Accepted
+  module _ (f : v ≡ Ok tt) where
+    accepted : contents_verdict file ≡ Ok tt
     accepted = sym e ∙ f
 
     pub start_zero : (b : ℕ) → b ≡ 0 → 0 ≡ start_asked file b
@@ -64,41 +61,41 @@ size_is whole part at bytes s = ap length s.holds
 
 -- ---- counts
 
-counted_all : (v : Verdict) → v ≡ Accepted → (m : ℕ) → m ≡ counted v m
+counted_all : (v : Verdict) → v ≡ Ok tt → (m : ℕ) → m ≡ counted v m
 unfolding counted
 counted_all v e m = rw e
 
-counted_none : (v : Verdict) (why : Refusal) → v ≡ Refused why → (m : ℕ) → 0 ≡ counted v m
+counted_none : (v : Verdict) (why : Refusal) → v ≡ Err why → (m : ℕ) → 0 ≡ counted v m
 unfolding counted
 counted_none v why e m = rw e
 
 -- ---- N and C
 
 module _ (file : List ℕ) (k : ℕ) (a : CountsAnswer) (e : a ≡ counts_answer file k) where
-  module _ (n m : ℕ) (f : a ≡ counts.Found n m) where
-    by_verdict : (v : Verdict) → counts_by v (problem_of file k) ≡ counts.Found n m → (v ≡ Accepted) × (n ≡ N (problem_of file k)) × (m ≡ C (problem_of file k))
-    by_verdict Accepted g = (refl, cc, cc)
-    by_verdict (Refused w) g = let z : ◌≡◌ {A = ℕ} 0 1 = cc in absurd (omega arith)
+  module _ (found : FormulaCounts) (f : a ≡ Ok found) where
+    by_verdict : (v : Verdict) → counts_by v (problem_of file k) ≡ Ok found → (v ≡ Ok tt) × (found.variables ≡ N (problem_of file k)) × (found.clauses ≡ C (problem_of file k))
+    by_verdict (Ok _) g = (refl, ap variables_in (sym g), ap clauses_in (sym g))
+    by_verdict (Err w) g = let z : ◌≡◌ {A = ℕ} 0 1 = cc in absurd (omega arith)
 
-    found : (problem_verdict file k ≡ Accepted) × (n ≡ N (problem_of file k)) × (m ≡ C (problem_of file k))
+    counts_found : (problem_verdict file k ≡ Ok tt) × (found.variables ≡ N (problem_of file k)) × (found.clauses ≡ C (problem_of file k))
     unfolding counts_answer
-    found = by_verdict (problem_verdict file k) (sym e ∙ f)
+    counts_found = by_verdict (problem_verdict file k) (sym e ∙ f)
 
     pub counts_told : (number detail : ℕ) → answer number detail ≡ answer 0 0 → answer number detail ≡ answer_to (problem_verdict file k)
-    counts_told number detail t = told_accepted number detail _ found.0 t
+    counts_told number detail t = told_accepted number detail _ counts_found.0 t
 
-    pub variables_counted : n ≡ counted (problem_verdict file k) (N (problem_of file k))
-    variables_counted = found.1 ∙ counted_all _ found.0 _
+    pub variables_counted : found.variables ≡ counted (problem_verdict file k) (N (problem_of file k))
+    variables_counted = counts_found.1 ∙ counted_all _ counts_found.0 _
 
-    pub clauses_counted : m ≡ counted (problem_verdict file k) (C (problem_of file k))
-    clauses_counted = found.2 ∙ counted_all _ found.0 _
+    pub clauses_counted : found.clauses ≡ counted (problem_verdict file k) (C (problem_of file k))
+    clauses_counted = counts_found.2 ∙ counted_all _ counts_found.0 _
 
-  module _ (why : Refusal) (f : a ≡ counts.Refused why) where
-    by_refusal : (v : Verdict) → counts_by v (problem_of file k) ≡ counts.Refused why → v ≡ Refused why
-    by_refusal Accepted g = let z : ◌≡◌ {A = ℕ} 0 1 = cc in absurd (omega arith)
-    by_refusal (Refused w) g = let same : w ≡ why = cc in rw same
+  module _ (why : Refusal) (f : a ≡ Err why) where
+    by_refusal : (v : Verdict) → counts_by v (problem_of file k) ≡ Err why → v ≡ Err why
+    by_refusal (Ok _) g = let z : ◌≡◌ {A = ℕ} 0 1 = cc in absurd (omega arith)
+    by_refusal (Err w) g = let same : w ≡ why = cc in rw same
 
-    none_found : problem_verdict file k ≡ Refused why
+    none_found : problem_verdict file k ≡ Err why
     unfolding counts_answer
     none_found = by_refusal (problem_verdict file k) (sym e ∙ f)
 
@@ -111,12 +108,12 @@ module _ (file : List ℕ) (k : ℕ) (a : CountsAnswer) (e : a ≡ counts_answer
 -- ---- literals
 
 module _ (file : List ℕ) (k c room : ℕ) (a : LiteralsAnswer) (e : a ≡ literals_answer file k c room) where
-  module _ (n : ℕ) (f : a ≡ literals.Count n) where
-    literals_by_lem : (v : Verdict) (m : ℕ) → literals_by v m ≡ literals.Count n → (v ≡ Accepted) × (n ≡ m)
-    literals_by_lem Accepted m g = (refl, cc)
-    literals_by_lem (Refused w) m g = let z : ◌≡◌ {A = ℕ} 0 1 = cc in absurd (omega arith)
+  module _ (n : ℕ) (f : a ≡ Ok n) where
+    literals_by_lem : (v : Verdict) (m : ℕ) → literals_by v m ≡ Ok n → (v ≡ Ok tt) × (n ≡ m)
+    literals_by_lem (Ok _) m g = (refl, cc)
+    literals_by_lem (Err w) m g = let z : ◌≡◌ {A = ℕ} 0 1 = cc in absurd (omega arith)
 
-    written : (clause_verdict file k c room ≡ Accepted) × (n ≡ length (clause (problem_of file k) c))
+    written : (clause_verdict file k c room ≡ Ok tt) × (n ≡ length (clause (problem_of file k) c))
     unfolding literals_answer
     written = literals_by_lem (clause_verdict file k c room) _ (sym e ∙ f)
 
@@ -126,12 +123,12 @@ module _ (file : List ℕ) (k c room : ℕ) (a : LiteralsAnswer) (e : a ≡ lite
     pub literals_counted : n ≡ counted (clause_verdict file k c room) (length (clause (problem_of file k) c))
     literals_counted = written.1 ∙ counted_all _ written.0 _
 
-  module _ (why : Refusal) (f : a ≡ literals.Refused why) where
-    no_literals_by : (v : Verdict) (m : ℕ) → literals_by v m ≡ literals.Refused why → v ≡ Refused why
-    no_literals_by Accepted m g = let z : ◌≡◌ {A = ℕ} 0 1 = cc in absurd (omega arith)
-    no_literals_by (Refused w) m g = let same : w ≡ why = cc in rw same
+  module _ (why : Refusal) (f : a ≡ Err why) where
+    no_literals_by : (v : Verdict) (m : ℕ) → literals_by v m ≡ Err why → v ≡ Err why
+    no_literals_by (Ok _) m g = let z : ◌≡◌ {A = ℕ} 0 1 = cc in absurd (omega arith)
+    no_literals_by (Err w) m g = let same : w ≡ why = cc in rw same
 
-    none_written : clause_verdict file k c room ≡ Refused why
+    none_written : clause_verdict file k c room ≡ Err why
     unfolding literals_answer
     none_written = no_literals_by (clause_verdict file k c room) _ (sym e ∙ f)
 

@@ -1,5 +1,6 @@
 -- A reading state crosses as a number that stays and a phase that is written: the state that a host hands in next is the one that was answered.
 -- Assumes nothing.
+use Rattle.std.specs.Prelude.{Ok, Err}
 use mathlib.Core.Path.{◌≡◌, refl, sym, ap, ap₂, ◌∙◌}
 use mathlib.Core.Logic.{⊎_elim}
 use mathlib.Core.Bool.{true, false}
@@ -11,12 +12,9 @@ use Rattle.rules.specs.Text.{lf}
 use Rattle.rules.specs.Rows.{Rows}
 use Rattle.rules.specs.Families.{Literal}
 use Rattle.rules.specs.Lines.{rows_fit, kind_of, line_verdict, phase_after, named, progress, read_line}
-use Rattle.rules.specs.Answers.{demand, judge, in_turn}
+use Rattle.rules.specs.Answers.{demand, judge, in_turn, Verdict, LineAnswer}
 use Rattle.rules.specs.declared.Refusal.TheVariants.{Room}
-use Rattle.rules.specs.declared.Verdict.{Verdict}
-use Rattle.rules.specs.declared.Verdict.TheVariants.{Accepted, Refused}
 use Rattle.rules.specs.declared.Reading.{Reading}
-use Rattle.rules.specs.declared.LineAnswer.{LineAnswer}
 use Rattle.rules.proofs.Bools.{either}
 use Rattle.output.specs.Line.{lent}
 use Rattle.output.specs.Feeding.{line_room, Fed, fed_byte, feed_byte, feed_all, has_room, feed_call, finished, finish, finish_call}
@@ -31,8 +29,8 @@ Keeps highest line = highest_left line highest ≡ highest
 -- ---- lines
 
 of_verdict : (v : Verdict) (next : Reading) (ls : List Literal) (rows : Rows) → Keeps next.highest (progress v next ls rows).answer
-of_verdict Accepted next ls rows = refl
-of_verdict (Refused why) next ls rows = refl
+of_verdict (Ok _) next ls rows = refl
+of_verdict (Err why) next ls rows = refl
 
 of_line : (highest : ℕ) (reading : Reading) → reading.highest ≡ highest → (rows : Rows) (line : List ℕ) → Keeps highest (read_line reading rows line).answer
 unfolding read_line
@@ -46,8 +44,8 @@ of_line highest reading e rows line =
 
 of_byte : (highest : ℕ) (a : LineAnswer) → Keeps highest a → (rows : Rows) (held : ℕ) (line : List ℕ) (b : ℕ)
     → Keeps highest (fed_byte a rows held line b).progress.answer
-of_byte highest (LineAnswer.Refused why) e rows held line b = refl
-of_byte highest (LineAnswer.Next reading) e rows held line b =
+of_byte highest (Err why) e rows held line b = refl
+of_byte highest (Ok reading) e rows held line b =
     ⊎_elim
     (λ t. rw t (of_line highest reading e rows (take held line)))
     (λ (t : eqb b lf ≡ false).
@@ -61,8 +59,8 @@ of_bytes highest fed e (b ∷ bytes) =
     of_bytes highest (feed_byte fed b) (of_byte highest fed.progress.answer e fed.progress.rows fed.held fed.line b) bytes
 
 of_end : (highest : ℕ) (a : LineAnswer) → Keeps highest a → (rows : Rows) (held : ℕ) (line : List ℕ) → Keeps highest (finished a rows held line).answer
-of_end highest (LineAnswer.Refused why) e rows held line = refl
-of_end highest (LineAnswer.Next reading) e rows held line =
+of_end highest (Err why) e rows held line = refl
+of_end highest (Ok reading) e rows held line =
     ⊎_elim (λ t. rw t e) (λ t. rw t (of_line highest reading e rows (take held line))) (either (eqb held 0))
 
 -- ---- the calls
@@ -80,21 +78,21 @@ module _ (highest phase : ℕ) where
     unfolding finish_call finish fed_so_far
     rest_keeps =
         ⊎_elim
-        (λ t. rw t (of_end highest (LineAnswer.Next (reading_of highest phase)) refl (lent given is_true) (min held line_room) line))
+        (λ t. rw t (of_end highest (Ok (reading_of highest phase)) refl (lent given is_true) (min held line_room) line))
         (λ t. rw t refl)
         (either (has_room (fed_so_far highest phase held given is_true line)))
 
 -- so of an answer that keeps it, the number that was handed in and the phase that was written are the next reading state
-pub next_state : (highest found : ℕ) (line : LineAnswer) (reading : Reading) → Keeps highest line → line ≡ LineAnswer.Next reading
+pub next_state : (highest found : ℕ) (line : LineAnswer) (reading : Reading) → Keeps highest line → line ≡ Ok reading
     → reading_of highest (phase_left line found) ≡ reading
 next_state highest found line reading k e =
     let same : reading.highest ≡ highest = rw e at k in
     rw e (ap₂ (λ h p. record { highest = h; phase = p }) (sym same) (back_again reading.phase))
 
 -- and what a host hands in with the next piece of an output is what the last piece left
-pub next_piece : (highest found : ℕ) (fed : Fed) (reading : Reading) → Keeps highest fed.progress.answer → fed.progress.answer ≡ LineAnswer.Next reading
+pub next_piece : (highest found : ℕ) (fed : Fed) (reading : Reading) → Keeps highest fed.progress.answer → fed.progress.answer ≡ Ok reading
     → fed_so_far highest (phase_left fed.progress.answer found) fed.held fed.progress.rows.given fed.progress.rows.is_true fed.line ≡ fed
 unfolding fed_so_far
 next_piece highest found fed reading k e =
     ap (λ a. record { progress = record { answer = a; rows = fed.progress.rows }; held = fed.held; line = fed.line })
-    (ap LineAnswer.Next (next_state highest found fed.progress.answer reading k e) ∙ sym e)
+    (ap Ok (next_state highest found fed.progress.answer reading k e) ∙ sym e)

@@ -1,16 +1,15 @@
 -- The ways out of the calls on a reading.
 -- Assumes nothing.
+use Rattle.std.specs.Prelude.{Ok}
 use mathlib.Core.Path.{◌≡◌, refl, ap, ◌∙◌}
 use mathlib.Core.List.{List}
 use Prim.Native.Nat.{ℕ}
-use Rattle.rules.specs.Answers.{answer, answer_to, answer_to_line}
+use Rattle.rules.specs.Answers.{answer, answer_to, answer_to_line, Verdict, LineAnswer}
 use Rattle.rules.specs.Rows.{Rows}
 use Rattle.rules.specs.Lines.{Progress, read_line}
 use Rattle.rules.specs.Calls.{start_reading, end_verdict, end_entries}
-use Rattle.rules.specs.declared.Verdict.{Verdict}
 use Rattle.rules.specs.declared.Phase.{Phase}
 use Rattle.rules.specs.declared.Reading.{Reading}
-use Rattle.rules.specs.declared.LineAnswer.{LineAnswer}
 use Rattle.output.specs.Line.{leaves}
 use Rattle.output.specs.Feeding.{feed_leaves, feed_call, finish_call}
 use Rattle.output.specs.declared.feeding.Feed.{Feed}
@@ -18,7 +17,7 @@ use Rattle.host.specs.States.{phase_of, reading_of}
 use Rattle.host.specs.Cells.{phase_left, highest_left, left, left_by, fed_left, fed_left_by, fed_so_far}
 
 so_far : (found highest : ℕ) (reading : Reading) → reading ≡ reading_of highest found → (held : ℕ) (given is_true line : List ℕ)
-    → feed_leaves (record { answer = LineAnswer.Next reading; held = held }) given is_true line ≡ fed_so_far highest found held given is_true line
+    → feed_leaves (record { answer = Ok reading; held = held }) given is_true line ≡ fed_so_far highest found held given is_true line
 unfolding fed_so_far
 so_far found highest reading s held given is_true line = rw s
 
@@ -40,13 +39,13 @@ module _ (number detail phase found : ℕ) (line : LineAnswer) (a : answer numbe
         → left number detail phase given is_true ≡ left_by (read_line (reading_of highest found) rows bytes) found
     line_left rows bytes e = left_by_lem _ (e ∙ ap (λ r. read_line r rows bytes) s)
 
-    pub rest_left : (held : ℕ) (g t l : List ℕ) → leaves line given is_true ≡ finish_call (feed_leaves (record { answer = LineAnswer.Next reading; held = held }) g t l)
+    pub rest_left : (held : ℕ) (g t l : List ℕ) → leaves line given is_true ≡ finish_call (feed_leaves (record { answer = Ok reading; held = held }) g t l)
         → left number detail phase given is_true ≡ left_by (finish_call (fed_so_far highest found held g t l)) found
     rest_left held g t l e = left_by_lem _ (e ∙ ap finish_call (so_far found highest reading s held g t l))
 
 pub bytes_left : (number detail phase found : ℕ) (fed : Feed) (given is_true line : List ℕ) (highest : ℕ) (reading : Reading) (held : ℕ) (g t l bytes : List ℕ)
     → answer number detail ≡ answer_to_line fed.answer → phase ≡ phase_left fed.answer found → reading ≡ reading_of highest found
-    → feed_leaves fed given is_true line ≡ feed_call (feed_leaves (record { answer = LineAnswer.Next reading; held = held }) g t l) bytes
+    → feed_leaves fed given is_true line ≡ feed_call (feed_leaves (record { answer = Ok reading; held = held }) g t l) bytes
     → fed_left number detail phase fed.held given is_true line ≡ fed_left_by (feed_call (fed_so_far highest found held g t l) bytes) found
 unfolding fed_left_by
 bytes_left number detail phase found fed given is_true line highest reading held g t l bytes a b s e =

@@ -1,27 +1,26 @@
 -- The ways out of the calls that write text.
 -- Assumes nothing.
+use Rattle.std.specs.Prelude.{Ok, Err}
 use mathlib.Core.Path.{◌≡◌, refl, ap, ◌∙◌}
 use Prim.Native.Nat.{ℕ}
-use Rattle.rules.specs.Answers.{answer, answer_of, answer_to}
+use Rattle.rules.specs.Answers.{answer, answer_of, answer_to, Verdict}
 use Rattle.rules.specs.declared.Refusal.{Refusal}
-use Rattle.rules.specs.declared.Verdict.{Verdict}
-use Rattle.rules.specs.declared.Verdict.TheVariants.{Accepted, Refused}
-use Rattle.text.specs.Said.{answered}
-use Rattle.text.specs.declared.calls.TextAnswer.{TextAnswer}
+use Rattle.text.specs.declared.runs.Run.{Run}
+use Rattle.text.specs.Said.{answered, TextAnswer}
 use Rattle.host.specs.Cells.{counted}
 use Rattle.host.specs.Texts.{answer_to_text, lines_in, bytes_in}
 
 -- ---- an answer, handed over
 
 module _ (text : TextAnswer) where
-  module _ (lines bytes : ℕ) (e : text ≡ TextAnswer.Written lines bytes) where
+  module _ (run : Run) (e : text ≡ Ok run) where
     pub written_told : (number detail : ℕ) → answer number detail ≡ answer 0 0 → answer number detail ≡ answer_to_text text
     written_told number detail t = rw e t
 
-    pub bytes_written : bytes ≡ bytes_in text
+    pub bytes_written : run.bytes ≡ bytes_in text
     bytes_written = rw e
 
-  module _ (why : Refusal) (e : text ≡ TextAnswer.Refused why) where
+  module _ (why : Refusal) (e : text ≡ Err why) where
     pub refused_told : (number detail : ℕ) → answer number detail ≡ answer_of why → answer number detail ≡ answer_to_text text
     refused_told number detail t = rw e t
 
@@ -31,18 +30,18 @@ module _ (text : TextAnswer) where
 -- ---- an answer that a verdict made
 
 tells : (v : Verdict) (lines bytes : ℕ) → answer_to_text (answered v lines bytes) ≡ answer_to v
-tells Accepted lines bytes = refl
-tells (Refused why) lines bytes = refl
+tells (Ok _) lines bytes = refl
+tells (Err why) lines bytes = refl
 
 counts_lines : (v : Verdict) (lines bytes : ℕ) → lines_in (answered v lines bytes) ≡ counted v lines
 unfolding counted
-counts_lines Accepted lines bytes = refl
-counts_lines (Refused why) lines bytes = refl
+counts_lines (Ok _) lines bytes = refl
+counts_lines (Err why) lines bytes = refl
 
 counts_bytes : (v : Verdict) (lines bytes : ℕ) → bytes_in (answered v lines bytes) ≡ counted v bytes
 unfolding counted
-counts_bytes Accepted lines bytes = refl
-counts_bytes (Refused why) lines bytes = refl
+counts_bytes (Ok _) lines bytes = refl
+counts_bytes (Err why) lines bytes = refl
 
 module _ (text : TextAnswer) (v : Verdict) (lines bytes : ℕ) (e : text ≡ answered v lines bytes) where
   pub text_told : (number detail : ℕ) → answer number detail ≡ answer_to_text text → answer number detail ≡ answer_to v

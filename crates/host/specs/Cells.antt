@@ -1,29 +1,26 @@
 -- What a call leaves in the caller's cells.
 -- Assumes nothing.
-use Rattle.std.specs.Prelude.{ℕ, List}
-use Rattle.rules.specs.Answers.{Answer, answer, answer_to_line}
+use Rattle.std.specs.Prelude.{ℕ, List, Ok, Err}
+use Rattle.rules.specs.Answers.{Answer, answer, answer_to_line, Verdict, LineAnswer}
 use Rattle.rules.specs.Rows.{Rows}
 use Rattle.rules.specs.Lines.{Progress}
-use Rattle.rules.specs.declared.Verdict.{Verdict}
-use Rattle.rules.specs.declared.Verdict.TheVariants.{Accepted, Refused}
-use Rattle.rules.specs.declared.LineAnswer.{LineAnswer}
 use Rattle.output.specs.Line.{lent, leaves}
 use Rattle.output.specs.Feeding.{Fed}
 use Rattle.host.specs.States.{phase_number, reading_of}
 
 -- a count is 0 where the call refuses
 unfoldable pub counted : Verdict → ℕ → ℕ
-counted Accepted count = count
-counted (Refused why) count = 0
+counted (Ok _) count = count
+counted (Err why) count = 0
 
 -- a reading state is left as found where the call refuses
 abbrev pub phase_left : LineAnswer → (found : ℕ) → ℕ
-phase_left (LineAnswer.Next reading) found = phase_number reading.phase
-phase_left (LineAnswer.Refused why) found = found
+phase_left (Ok reading) found = phase_number reading.phase
+phase_left (Err why) found = found
 
 abbrev pub highest_left : LineAnswer → (found : ℕ) → ℕ
-highest_left (LineAnswer.Next reading) found = reading.highest
-highest_left (LineAnswer.Refused why) found = found
+highest_left (Ok reading) found = reading.highest
+highest_left (Err why) found = found
 
 -- what a call on a reading leaves: number and detail, the phase's number, both rows
 pub record Left : Type 0 where
@@ -52,4 +49,4 @@ fed_left_by fed found = record { reading = left_by fed.progress found; held = fe
 -- what such a call finds
 unfoldable pub fed_so_far : (highest phase held : ℕ) (given is_true line : List ℕ) → Fed
 fed_so_far highest phase held given is_true line =
-    record { progress = leaves (LineAnswer.Next (reading_of highest phase)) given is_true; held = held; line = line }
+    record { progress = leaves (Ok (reading_of highest phase)) given is_true; held = held; line = line }

@@ -5,7 +5,7 @@ ghost use Rattle.rules.specs.File.{file_verdict, contents_verdict, body_asked};
 ghost use Rattle.reader.specs.Stretches.{start_asked};
 
 use crate::answers::tell;
-use rules::Verdict;
+use rules::Refusal;
 use task::contents::{body_asked, body_start, contents_verdict};
 use task::file::file_verdict;
 use task::limits::CONTENTS_ROWS;
@@ -22,7 +22,7 @@ pub extern "C" fn wawrolen_check_file(file: &[u8], detail: &mut usize) -> usize
 fn start_asked(file: &[u8], number: usize) -> usize
     ensures { result ≡ start_asked file.now number }
 {
-    let Verdict::Accepted = contents_verdict(file) else {
+    let Ok(()) = contents_verdict(file) else {
         return 0;
     };
     if number == 0 {

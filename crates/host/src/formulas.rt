@@ -7,7 +7,6 @@ ghost use Rattle.rules.specs.Calls.{problem_of, problem_verdict, clause_verdict,
 ghost use Rattle.host.specs.Cells.{counted};
 
 use crate::answers::{accept, refuse};
-use formula::calls::{CountsAnswer, LiteralsAnswer};
 
 // N and C; refusals 1 to 8.
 #[unsafe(no_mangle)]
@@ -23,15 +22,12 @@ pub extern "C" fn wawrolen_counts(
     ensures clauses_after { clauses.new ≡ counted (problem_verdict file.now horizon) (C (problem_of file.now horizon)) }
 {
     match formula::calls::counts(file, horizon) {
-        CountsAnswer::Found {
-            variables: n,
-            clauses: c,
-        } => {
-            *variables = n;
-            *clauses = c;
+        Ok(counts) => {
+            *variables = counts.variables;
+            *clauses = counts.clauses;
             accept(detail)
         }
-        CountsAnswer::Refused(why) => {
+        Err(why) => {
             *variables = 0;
             *clauses = 0;
             refuse(why, detail)
@@ -55,11 +51,11 @@ pub extern "C" fn wawrolen_literals(
     ensures room_after { room.new ≡ literals_after file.now horizon c room.old }
 {
     match formula::calls::literals(file, horizon, c, room) {
-        LiteralsAnswer::Count(written) => {
+        Ok(written) => {
             *count = written;
             accept(detail)
         }
-        LiteralsAnswer::Refused(why) => {
+        Err(why) => {
             *count = 0;
             refuse(why, detail)
         }

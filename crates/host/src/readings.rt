@@ -12,7 +12,7 @@ ghost use Rattle.host.specs.Cells.{highest_left, left, left_by, fed_left, fed_le
 use crate::answers::{keep_highest, tell, tell_line};
 use crate::states::{phase_of, reading_of};
 use output::feeding::Feed;
-use rules::{LineAnswer, Reading};
+use rules::Reading;
 
 // The first reading state, with the words needed 0 in both rows; refusals 1 to 8 and 10.
 #[unsafe(no_mangle)]
@@ -72,7 +72,7 @@ pub extern "C" fn wawrolen_read_bytes(
         ≡ fed_left_by (feed_call (fed_so_far highest phase.old held.old given.old truth.old line.old) bytes.now) phase.old }
 {
     let so_far = Feed {
-        answer: LineAnswer::Next(reading_of(highest, *phase)),
+        answer: Ok(reading_of(highest, *phase)),
         held: *held,
     };
     let fed = output::feeding::take_bytes(so_far, given, truth, line, bytes);
@@ -96,7 +96,7 @@ pub extern "C" fn wawrolen_read_rest(
         ≡ left_by (finish_call (fed_so_far highest phase.old held given.old truth.old line.now)) phase.old }
 {
     let so_far = Feed {
-        answer: LineAnswer::Next(reading_of(highest, *phase)),
+        answer: Ok(reading_of(highest, *phase)),
         held,
     };
     tell_line(

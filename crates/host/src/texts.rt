@@ -9,32 +9,30 @@ ghost use Rattle.host.specs.Cells.{counted};
 ghost use Rattle.host.specs.Texts.{answer_to_text, lines_in, bytes_in};
 
 use crate::answers::{accept, refuse};
-use text::calls::TextAnswer;
+use rules::Refusal;
+use text::runs::Run;
 
-fn tell_text(text: TextAnswer, bytes: &mut usize, detail: &mut usize) -> usize
+fn tell_text(text: Result<Run, Refusal>, bytes: &mut usize, detail: &mut usize) -> usize
     ensures { (answer result detail.new ≡ answer_to_text text) × (bytes.new ≡ bytes_in text) }
 {
     match text {
-        TextAnswer::Written {
-            lines: _,
-            bytes: written,
-        } => {
-            *bytes = written;
+        Ok(run) => {
+            *bytes = run.bytes;
             accept(detail)
         }
-        TextAnswer::Refused(why) => {
+        Err(why) => {
             *bytes = 0;
             refuse(why, detail)
         }
     }
 }
 
-fn lines_in(text: TextAnswer) -> usize
+fn lines_in(text: Result<Run, Refusal>) -> usize
     ensures { result ≡ lines_in text }
 {
     match text {
-        TextAnswer::Written { lines, bytes: _ } => lines,
-        TextAnswer::Refused(_) => 0,
+        Ok(run) => run.lines,
+        Err(_) => 0,
     }
 }
 

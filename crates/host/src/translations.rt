@@ -6,7 +6,6 @@ ghost use Rattle.rules.specs.Translation.{text_task, translation_verdict, transl
 ghost use Rattle.host.specs.Cells.{counted};
 
 use crate::answers::{accept, refuse};
-use translator::intake::Translation;
 
 // The task file of a whole text, and how many bytes it has; refusals 30 to 32, 3 to 7 and 10.
 #[unsafe(no_mangle)]
@@ -22,11 +21,11 @@ pub extern "C" fn wawrolen_translate(
     ensures room_after { room.new ≡ translation_after text.now room.old }
 {
     match translator::translate(text, room) {
-        Translation::Written(written) => {
+        Ok(written) => {
             *bytes = written;
             accept(detail)
         }
-        Translation::Refused(why) => {
+        Err(why) => {
             *bytes = 0;
             refuse(why, detail)
         }

@@ -1,6 +1,7 @@
 -- The program as a whole: whatever parts its input comes in, what is written at the end is the rules' own output of the whole input. The first
 -- part has to hold the file that it announces, unless nothing follows it; each row has the words needed.
 -- Assumes nothing.
+use Rattle.std.specs.Prelude.{Ok, Err}
 use mathlib.Core.Path.{◌≡◌, refl, sym, ap, ap₂, ◌∙◌}
 use mathlib.Core.Logic.{◌⊎◌, inl, inr, ⊎_elim}
 use mathlib.Core.Bool.{true, ◌&&◌}
@@ -12,7 +13,7 @@ use lib.Dec.{leb, lit<}
 use lib.ListN.{length, take, drop, replicate, length-append, length-drop, length-replicate, drop_of_length-le, get_or-append}
 use lib.Seq.{take-append-le, drop-append-le}
 use Rattle.rules.specs.Counting.{joined}
-use Rattle.rules.specs.Answers.{demand, judge, in_turn}
+use Rattle.rules.specs.Answers.{demand, judge, in_turn, Verdict, LineAnswer}
 use Rattle.rules.specs.Limits.{max_horizon, byte_values}
 use Rattle.rules.specs.File.{byte, word16}
 use Rattle.rules.specs.Problem.{Problem}
@@ -27,11 +28,8 @@ use Rattle.rules.specs.Calls.{problem_of, problem_rules, problem_verdict, start_
 use Rattle.rules.specs.Programs.{printed, schedule_text, fresh_rows, model_text, after_lines, model_output}
 use Rattle.rules.specs.declared.Refusal.{Refusal}
 use Rattle.rules.specs.declared.Refusal.TheVariants.{Room}
-use Rattle.rules.specs.declared.Verdict.{Verdict}
-use Rattle.rules.specs.declared.Verdict.TheVariants.{Accepted, Refused}
 use Rattle.rules.specs.declared.Phase.{Phase}
 use Rattle.rules.specs.declared.Reading.{Reading}
-use Rattle.rules.specs.declared.LineAnswer.{LineAnswer}
 use Rattle.rules.proofs.Judging.{judge_append, judge_cons, judge_nil}
 use Rattle.rows.specs.Lent.{lent}
 use Rattle.output.specs.Feeding.{line_room, Fed, feed_byte, feed_all, room_for, has_room, feed_call, finish, finish_call}
@@ -45,17 +43,17 @@ use Rattle.model.proofs.Ways.{verdicts, accepted_horizon}
 -- ---- a reading keeps the lengths of the rows
 
 progress_keeps : (v : Verdict) (next : Reading) (ls : List Literal) (rows : Rows) → Kept (progress v next ls rows).rows rows
-progress_keeps Accepted next ls rows = all_keep rows ls
-progress_keeps (Refused why) next ls rows = kept_same rows
+progress_keeps (Ok _) next ls rows = all_keep rows ls
+progress_keeps (Err why) next ls rows = kept_same rows
 
 on_keeps : (a : LineAnswer) (rows : Rows) (line : List ℕ) → Kept (read_on a rows line).rows rows
 unfolding read_line
-on_keeps (LineAnswer.Next reading) rows line =
+on_keeps (Ok reading) rows line =
     progress_keeps (in_turn (judge (demand (rows_fit reading.highest rows) Room ∷ [])) (line_verdict reading rows.given line))
     (record { highest = reading.highest; phase = phase_after (kind_of line) reading rows.given line })
     (named (kind_of line) reading rows.given line)
     rows
-on_keeps (LineAnswer.Refused why) rows line = kept_same rows
+on_keeps (Err why) rows line = kept_same rows
 
 lines_keep : (lines : List (List ℕ)) (p : Progress) → Kept (foldl (λ p line. read_on p.answer p.rows line) p lines).rows p.rows
 lines_keep [] p = kept_same p.rows
@@ -64,13 +62,13 @@ lines_keep (l ∷ ls) p =
 
 output_keeps : (reading : Reading) (rows : Rows) (bytes : List ℕ) → Kept (read_output reading rows bytes).rows rows
 unfolding read_output read_lines
-output_keeps reading rows bytes = lines_keep (lines_of bytes) (record { answer = LineAnswer.Next reading; rows = rows })
+output_keeps reading rows bytes = lines_keep (lines_of bytes) (record { answer = Ok reading; rows = rows })
 
 -- ---- a refused start stays what it is
 
 module _ (why : Refusal) (rows : Rows) (line : List ℕ) (room : line_room ≤ length line) where
   abbrev stopped : Fed
-  stopped = record { progress = record { answer = LineAnswer.Refused why; rows = rows }; held = 0; line = line }
+  stopped = record { progress = record { answer = Err why; rows = rows }; held = 0; line = line }
 
   room_stays : has_room stopped ≡ true
   unfolding has_room room_for
@@ -89,7 +87,7 @@ module _ (why : Refusal) (rows : Rows) (line : List ℕ) (room : line_room ≤ l
   calls_stay [] = refl
   calls_stay (p ∷ parts) = ap (λ fed. foldl feed_call fed parts) (call_stays p) ∙ calls_stay parts
 
-  end_stays : ◌≡◌ {A = Progress} (finish_call stopped) (record { answer = LineAnswer.Refused why; rows = rows })
+  end_stays : ◌≡◌ {A = Progress} (finish_call stopped) (record { answer = Err why; rows = rows })
   unfolding finish_call finish
   end_stays = rw room_stays
 
@@ -131,12 +129,12 @@ module _ (file : List ℕ) (k : ℕ) (rows : Rows) where
   unfolding start_verdict problem_verdict
   start_verdicts = judge_append (problem_rules file k) _
 
-  start_refused : (why : Refusal) → problem_verdict file k ≡ Refused why → ◌≡◌ {A = Progress} (start_reading file k rows) (record { answer = LineAnswer.Refused why; rows = rows })
+  start_refused : (why : Refusal) → problem_verdict file k ≡ Err why → ◌≡◌ {A = Progress} (start_reading file k rows) (record { answer = Err why; rows = rows })
   unfolding start_reading
   start_refused why e = rw (start_verdicts, e)
 
-  start_accepted : problem_verdict file k ≡ Accepted → rows_fit (N (problem_of file k)) rows ≡ true
-      → ◌≡◌ {A = Progress} (start_reading file k rows) (record { answer = LineAnswer.Next (first_reading (problem_of file k)); rows = cleared_rows (problem_of file k) rows })
+  start_accepted : problem_verdict file k ≡ Ok tt → rows_fit (N (problem_of file k)) rows ≡ true
+      → ◌≡◌ {A = Progress} (start_reading file k rows) (record { answer = Ok (first_reading (problem_of file k)); rows = cleared_rows (problem_of file k) rows })
   unfolding start_reading
   start_accepted e fits = rw (start_verdicts, e, judge_cons (demand (rows_fit (N (problem_of file k)) rows) Room) [] fits judge_nil)
 
@@ -164,7 +162,7 @@ fresh_fit P after k =
       le-leb (words_for (N P)) (length after.is_true) (omega (arith, k.is_true, length-replicate {A = ℕ} (words_for (N P)) 0)),
     )
 
-end_outcome : (file : List ℕ) (k : ℕ) (phase : Phase) (rows : Rows) → problem_verdict file k ≡ Accepted → rows_fit (N (problem_of file k)) rows ≡ true
+end_outcome : (file : List ℕ) (k : ℕ) (phase : Phase) (rows : Rows) → problem_verdict file k ≡ Ok tt → rows_fit (N (problem_of file k)) rows ≡ true
     → end_verdict file k phase rows (replicate max_horizon 0) ≡ outcome (problem_of file k) phase rows
 end_outcome file k phase rows e fits =
     verdicts file k phase rows (replicate max_horizon 0)
@@ -172,11 +170,11 @@ end_outcome file k phase rows e fits =
     (ap (λ v. in_turn v (judge (demand (rows_fit (N (problem_of file k)) rows && leb k max_horizon) Room ∷ []))) e
     ∙ judge_cons (demand (rows_fit (N (problem_of file k)) rows && leb k max_horizon) Room) [] (rw (fits, le-leb k max_horizon (accepted_horizon file k e))) judge_nil)
 
-text_same : (first : List ℕ) (a : LineAnswer) (rows : Rows) → problem_verdict (file_in first) (byte first 0) ≡ Accepted
+text_same : (first : List ℕ) (a : LineAnswer) (rows : Rows) → problem_verdict (file_in first) (byte first 0) ≡ Ok tt
     → rows_fit (N (problem_of (file_in first) (byte first 0))) rows ≡ true → text_after first a rows ≡ model_text (problem_of (file_in first) (byte first 0)) a rows
 unfolding end_text
-text_same first (LineAnswer.Refused why) rows e fits = refl
-text_same first (LineAnswer.Next reading) rows e fits =
+text_same first (Err why) rows e fits = refl
+text_same first (Ok reading) rows e fits =
     ap (λ v. printed v (schedule_text (schedule_of (problem_of (file_in first) (byte first 0)) (model_in rows)))) (end_outcome (file_in first) (byte first 0) reading.phase rows e fits)
 
 -- ---- the whole
@@ -192,19 +190,19 @@ module _ (first : List ℕ) (parts : List (List ℕ)) (g t line : List ℕ) (roo
   by_verdict : (v : Verdict) → problem_verdict (file_in first) (byte first 0) ≡ v → length g ≡ words_by v P → length t ≡ words_by v P
       → written ≡ printed v (after_lines P (read_output (first_reading P) (fresh_rows P) (lines_in first ++ joined parts)))
   unfolding begun last_text joined
-  by_verdict (Refused why) e a b =
+  by_verdict (Err why) e a b =
       let start : begun first (lent g t) line ≡ stopped why (lent g t) line room =
       ap (λ p. feed_call (record { progress = p; held = 0; line = line }) (lines_in first)) (start_refused (file_in first) (byte first 0) (lent g t) why e)
       ∙ call_stays why (lent g t) line room (lines_in first) in
       ap (λ fed. last_text first (finish_call (foldl feed_call fed parts))) start
       ∙ ap (λ fed. last_text first (finish_call fed)) (calls_stay why (lent g t) line room parts)
       ∙ ap (last_text first) (end_stays why (lent g t) line room)
-  by_verdict Accepted e a b =
+  by_verdict (Ok _) e a b =
       let start : begun first (lent g t) line
-      ≡ feed_call (record { progress = record { answer = LineAnswer.Next (first_reading P); rows = fresh_rows P }; held = 0; line = line }) (lines_in first) =
+      ≡ feed_call (record { progress = record { answer = Ok (first_reading P); rows = fresh_rows P }; held = 0; line = line }) (lines_in first) =
       ap (λ p. feed_call (record { progress = p; held = 0; line = line }) (lines_in first))
       (start_accepted (file_in first) (byte first 0) (lent g t) e (exact_fit P g t a b)
-      ∙ ap (λ rows. record { answer = LineAnswer.Next (first_reading P); rows = rows }) (cleared_fresh P g t a b)) in
+      ∙ ap (λ rows. record { answer = Ok (first_reading P); rows = rows }) (cleared_fresh P g t a b)) in
       let read : Progress = read_output (first_reading P) (fresh_rows P) (lines_in first ++ joined parts) in
       let fed : finish_call (foldl feed_call (begun first (lent g t) line) parts) ≡ read =
       ap (λ fed. finish_call (foldl feed_call fed parts)) start ∙ read_in_parts (first_reading P) (fresh_rows P) line (lines_in first ∷ parts) room (fresh_fit P (fresh_rows P) (kept_same (fresh_rows P))) in

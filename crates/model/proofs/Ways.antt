@@ -1,5 +1,6 @@
 -- The functions of the program, way by way.
 -- Assumes nothing.
+use Rattle.std.specs.Prelude.{Ok, Err}
 use mathlib.Core.Path.{◌≡◌, refl, sym, ap, ◌∙◌}
 use mathlib.Core.Logic.{⊎_elim}
 use mathlib.Core.List.{List, [], ◌∷◌, ◌++◌}
@@ -10,7 +11,7 @@ use mathlib.Core.Bool.{◌&&◌}
 use lib.Dec.{leb}
 use lib.ListN.{length, take, drop, replicate, length-take, length-drop, drop_of_length-le}
 use lib.Seq.{take_all, take-append_seam, length-take-le}
-use Rattle.rules.specs.Answers.{demand, judge, in_turn}
+use Rattle.rules.specs.Answers.{demand, judge, in_turn, Verdict, LineAnswer}
 use Rattle.rules.specs.Limits.{max_horizon, max_n}
 use Rattle.rules.specs.File.{byte, word16, task_of, file_rules, file_verdict}
 use Rattle.rules.specs.Text.{refusal_line}
@@ -24,19 +25,16 @@ use Rattle.rules.specs.Calls.{problem_of, problem_rules, problem_verdict, lent_a
 use Rattle.rules.specs.Programs.{printed, schedule_text}
 use Rattle.rules.specs.declared.Refusal.{Refusal}
 use Rattle.rules.specs.declared.Refusal.TheVariants.{Horizon, Room}
-use Rattle.rules.specs.declared.Verdict.{Verdict}
-use Rattle.rules.specs.declared.Verdict.TheVariants.{Accepted, Refused}
 use Rattle.rules.specs.declared.Phase.{Phase}
 use Rattle.rules.specs.declared.Reading.{Reading}
-use Rattle.rules.specs.declared.LineAnswer.{LineAnswer}
 use Rattle.rules.proofs.Bools.{below_or, and_right}
 use Rattle.rules.proofs.Counting.{length-table}
 use Rattle.rules.proofs.Figures.{figures}
 use Rattle.rules.proofs.Files.{accepted_valid}
 use Rattle.rules.proofs.Judging.{judge_head, judge_append, in_turn-left, in_turn-right}
-use Rattle.formula.specs.Said.{counts_by, counts_answer}
-use Rattle.formula.specs.declared.calls.CountsAnswer.{CountsAnswer}
-use Rattle.formula.specs.declared.calls.CountsAnswer.TheVariants as counts
+use Rattle.formula.specs.declared.calls.FormulaCounts.{FormulaCounts}
+use Rattle.formula.specs.Said.{counts_by, counts_answer, CountsAnswer}
+use Rattle.formula.proofs.Answered.{variables_in}
 use Rattle.rows.specs.Lent.{lent}
 use Rattle.output.specs.Line.{leaves}
 use Rattle.output.specs.declared.feeding.Feed.{Feed}
@@ -77,12 +75,12 @@ module _ (first : List ℕ) (end : ℕ) (e : end ≡ min (head_bytes + word16 fi
 
 -- ---- refusals 1 to 8
 
-module _ (file : List ℕ) (k : ℕ) (e : problem_verdict file k ≡ Accepted) where
-  both : in_turn (file_verdict file) (judge (demand (leb k max_horizon) Horizon ∷ [])) ≡ Accepted
+module _ (file : List ℕ) (k : ℕ) (e : problem_verdict file k ≡ Ok tt) where
+  both : in_turn (file_verdict file) (judge (demand (leb k max_horizon) Horizon ∷ [])) ≡ Ok tt
   unfolding problem_verdict problem_rules file_verdict
   both = sym (judge_append (file_rules file) _) ∙ e
 
-  accepted_file : file_verdict file ≡ Accepted
+  accepted_file : file_verdict file ≡ Ok tt
   accepted_file = in_turn-left _ _ both
 
   pub accepted_horizon : k ≤ max_horizon
@@ -95,29 +93,29 @@ module _ (first file : List ℕ) (k : ℕ) (a : CountsAnswer) (f : file ≡ file
   unfolding counts_answer
   by_counts = c ∙ rw (f, e)
 
-  none_by : (v : Verdict) → problem_verdict (file_in first) (byte first 0) ≡ v → (why : Refusal) → counts_by v (problem_of (file_in first) (byte first 0)) ≡ counts.Refused why
+  none_by : (v : Verdict) → problem_verdict (file_in first) (byte first 0) ≡ v → (why : Refusal) → counts_by v (problem_of (file_in first) (byte first 0)) ≡ Err why
       → 0 ≡ words_needed first
   unfolding words_needed
-  none_by Accepted g why h = let z : ◌≡◌ {A = ℕ} 0 1 = cc in absurd (omega arith)
-  none_by (Refused w) g why h = rw g
+  none_by (Ok _) g why h = let z : ◌≡◌ {A = ℕ} 0 1 = cc in absurd (omega arith)
+  none_by (Err w) g why h = rw g
 
-  some_by : (v : Verdict) → problem_verdict (file_in first) (byte first 0) ≡ v → (n m : ℕ) → counts_by v (problem_of (file_in first) (byte first 0)) ≡ counts.Found n m
-      → (words_for n ≡ words_needed first) × (n ≤ max_n)
+  some_by : (v : Verdict) → problem_verdict (file_in first) (byte first 0) ≡ v → (found : FormulaCounts) → counts_by v (problem_of (file_in first) (byte first 0)) ≡ Ok found
+      → (words_for found.variables ≡ words_needed first) × (found.variables ≤ max_n)
   unfolding words_needed problem_of
-  some_by (Refused w) g n m h = let z : ◌≡◌ {A = ℕ} 0 1 = cc in absurd (omega arith)
-  some_by Accepted g n m h =
-      let same : N (problem_of (file_in first) (byte first 0)) ≡ n = cc in
+  some_by (Err w) g found h = let z : ◌≡◌ {A = ℕ} 0 1 = cc in absurd (omega arith)
+  some_by (Ok _) g found h =
+      let same : N (problem_of (file_in first) (byte first 0)) ≡ found.variables = ap variables_in h in
       (rw g (ap words_for (sym same)), rw (sym same) (figures (task_of (file_in first)) (accepted_valid (file_in first) (accepted_file (file_in first) (byte first 0) g)) (byte first 0) (accepted_horizon (file_in first) (byte first 0) g)).variables)
 
-  pub no_words : (why : Refusal) → a ≡ counts.Refused why → 0 ≡ words_needed first
+  pub no_words : (why : Refusal) → a ≡ Err why → 0 ≡ words_needed first
   no_words why g = none_by (problem_verdict (file_in first) (byte first 0)) refl why (sym by_counts ∙ g)
 
-  module _ (n m w : ℕ) (g : a ≡ counts.Found n m) (h : w ≡ words_for n) where
+  module _ (found : FormulaCounts) (w : ℕ) (g : a ≡ Ok found) (h : w ≡ words_for found.variables) where
     pub the_words : w ≡ words_needed first
-    the_words = h ∙ (some_by (problem_verdict (file_in first) (byte first 0)) refl n m (sym by_counts ∙ g)).0
+    the_words = h ∙ (some_by (problem_verdict (file_in first) (byte first 0)) refl found (sym by_counts ∙ g)).0
 
     pub words_few : w ≤ most_words
-    words_few = omega (arith, (some_by (problem_verdict (file_in first) (byte first 0)) refl n m (sym by_counts ∙ g)).1)
+    words_few = omega (arith, (some_by (problem_verdict (file_in first) (byte first 0)) refl found (sym by_counts ∙ g)).1)
 
 -- ---- the start
 
@@ -150,7 +148,7 @@ module _ (file given is_true : List ℕ) (k : ℕ) (phase : Phase) (v : Verdict)
   unfolding end_text
   text_by = ap (λ v. printed v (schedule_text (schedule_of (problem_of file k) (model_in (lent given is_true))))) e
 
-  module _ (why : Refusal) (f : v ≡ Refused why) where
+  module _ (why : Refusal) (f : v ≡ Err why) where
     refused_text : refusal_line why ≡ end_text file k phase (lent given is_true)
     refused_text = ap (λ v. printed v (schedule_text (schedule_of (problem_of file k) (model_in (lent given is_true))))) (sym f) ∙ text_by
 
@@ -160,7 +158,7 @@ module _ (file given is_true : List ℕ) (k : ℕ) (phase : Phase) (v : Verdict)
     pub end_refused_behind : (end : ℕ) → end ≡ length (refusal_line why) → end ≡ length (end_text file k phase (lent given is_true))
     end_refused_behind end g = g ∙ ap length refused_text
 
-  module _ (f : v ≡ Accepted) where
+  module _ (f : v ≡ Ok tt) where
     horizon_low : k ≤ max_horizon
     horizon_low =
         let both = in_turn-left _ (outcome (problem_of file k) phase (lent given is_true)) (sym (verdicts file k phase (lent given is_true) (replicate max_horizon 0)) ∙ sym e ∙ f) in
@@ -201,7 +199,7 @@ module _ (first g t : List ℕ) (fed : Fed) (a : LineAnswer) (e : leaves a g t �
   unfolding last_text
   answered = ap (λ p. text_after first p.answer p.rows) e
 
-  module _ (why : Refusal) (f : a ≡ LineAnswer.Refused why) where
+  module _ (why : Refusal) (f : a ≡ Err why) where
     refused_last : refusal_line why ≡ last_text first (finish_call fed)
     refused_last = ap (λ a. text_after first a (lent g t)) (sym f) ∙ answered
 
@@ -211,7 +209,7 @@ module _ (first g t : List ℕ) (fed : Fed) (a : LineAnswer) (e : leaves a g t �
     pub last_refused_behind : (end : ℕ) → end ≡ length (refusal_line why) → end ≡ length (last_text first (finish_call fed))
     last_refused_behind end h = h ∙ ap length refused_last
 
-  module _ (reading : Reading) (f : a ≡ LineAnswer.Next reading) (file : List ℕ) (k : ℕ) (i : file ≡ file_in first) (j : k ≡ byte first 0) where
+  module _ (reading : Reading) (f : a ≡ Ok reading) (file : List ℕ) (k : ℕ) (i : file ≡ file_in first) (j : k ≡ byte first 0) where
     next_last : end_text file k reading.phase (lent g t) ≡ last_text first (finish_call fed)
     next_last = rw (i, j) (ap (λ a. text_after first a (lent g t)) (sym f)) ∙ answered
 

@@ -1,6 +1,6 @@
 -- The input in parts: what the first of them holds, the reading that begins with it, and what is printed once the last is fed.
 -- Assumes nothing.
-use Rattle.std.specs.Prelude.{ℕ, ◌+◌, ◌-◌, ◌*◌, ◌<◌, ◌≡◌, length, take, drop, replicate}
+use Rattle.std.specs.Prelude.{ℕ, ◌+◌, ◌-◌, ◌*◌, ◌<◌, ◌≡◌, length, take, drop, replicate, Ok, Err}
 use mathlib.Core.List.{List, [], ◌++◌, foldl}
 use Rattle.rules.specs.Limits.{max_horizon, max_n, byte_values}
 use Rattle.rules.specs.File.{byte, word16}
@@ -13,10 +13,8 @@ use Rattle.rules.specs.Readings.{schedule_of}
 use Rattle.rules.specs.Lines.{Progress}
 use Rattle.rules.specs.Calls.{problem_of, problem_verdict, start_reading, end_verdict}
 use Rattle.rules.specs.Programs.{printed, schedule_text, model_output}
-use Rattle.rules.specs.declared.Verdict.{Verdict}
-use Rattle.rules.specs.declared.Verdict.TheVariants.{Accepted, Refused}
+use Rattle.rules.specs.Answers.{Verdict, LineAnswer}
 use Rattle.rules.specs.declared.Phase.{Phase}
-use Rattle.rules.specs.declared.LineAnswer.{LineAnswer}
 use Rattle.output.specs.Feeding.{Fed, feed_call, finish_call}
 use Rattle.digits.specs.Over.{over}
 use Rattle.printing.specs.Printed.{ended_room}
@@ -46,8 +44,8 @@ unfoldable pub lines_in : List ℕ → List ℕ
 lines_in first = drop (head_bytes + word16 first 1) first
 
 abbrev pub words_by : Verdict → Problem → ℕ
-words_by Accepted P = words_for (N P)
-words_by (Refused why) P = 0
+words_by (Ok _) P = words_for (N P)
+words_by (Err why) P = 0
 
 -- the words that each row needs
 unfoldable pub words_needed : List ℕ → ℕ
@@ -68,8 +66,8 @@ unfoldable pub end_text : List ℕ → ℕ → Phase → Rows → List ℕ
 end_text file k phase rows = printed (end_verdict file k phase rows (replicate max_horizon 0)) (schedule_text (schedule_of (problem_of file k) (model_in rows)))
 
 abbrev pub text_after : List ℕ → LineAnswer → Rows → List ℕ
-text_after first (LineAnswer.Next reading) rows = end_text (file_in first) (byte first 0) reading.phase rows
-text_after first (LineAnswer.Refused why) rows = refusal_line why
+text_after first (Ok reading) rows = end_text (file_in first) (byte first 0) reading.phase rows
+text_after first (Err why) rows = refusal_line why
 
 unfoldable pub last_text : List ℕ → Progress → List ℕ
 last_text first progress = text_after first progress.answer progress.rows

@@ -7,11 +7,10 @@ ghost use Rattle.output.specs.Feeding.{feed_leaves, finish_call};
 ghost use Rattle.digits.specs.Over.{over};
 ghost use Rattle.model.specs.Parts.{head_bytes, first_room, most_words, text_room, file_in, lines_in, words_needed, begun, end_text, last_text};
 
-use formula::calls::CountsAnswer;
 use lent_bytes::number_at;
 use output::feeding;
 use output::feeding::Feed;
-use rules::{LineAnswer, Reading, Verdict};
+use rules::{Reading, Refusal};
 use task::problem::MAX_HORIZON;
 
 // The bytes before the file: the horizon and the file's length.
@@ -60,11 +59,8 @@ pub fn words_needed(first: &[u8]) -> usize
     ensures { (result ≡ words_needed first.now) × (result ≤ most_words) }
 {
     match formula::calls::counts(file_in(first), number_at(first, 0)) {
-        CountsAnswer::Refused(_) => 0,
-        CountsAnswer::Found {
-            variables,
-            clauses: _,
-        } => rows::words_for(variables),
+        Err(_) => 0,
+        Ok(counts) => rows::words_for(counts.variables),
     }
 }
 
@@ -98,8 +94,8 @@ fn end_text(
 {
     let mut entries = [0u32; MAX_HORIZON];
     match checker::end::finish(file, horizon, reading, given, truth, &mut entries) {
-        Verdict::Refused(why) => printing::refusal_line(out, why),
-        Verdict::Accepted => printing::schedule_text(out, &entries[..horizon]),
+        Err(why) => printing::refusal_line(out, why),
+        Ok(()) => printing::schedule_text(out, &entries[..horizon]),
     }
 }
 
@@ -117,8 +113,8 @@ pub fn finish(
     ensures behind { result ≡ length (last_text first.now (finish_call (feed_leaves state given.old truth.old line.now))) }
 {
     match feeding::finish(state, given, truth, line) {
-        LineAnswer::Refused(why) => printing::refusal_line(out, why),
-        LineAnswer::Next(reading) => end_text(
+        Err(why) => printing::refusal_line(out, why),
+        Ok(reading) => end_text(
             file_in(first),
             number_at(first, 0),
             reading,

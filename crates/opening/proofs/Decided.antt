@@ -4,7 +4,7 @@ use mathlib.Core.Path.{◌≡◌, sym, ap, ◌∙◌}
 use borrow.Fn.Kinds.{Dens, ended_of}
 use contract.Lifetimes.{Lfts}
 use denote.Triple.Clauses.{AtExit}
-use Rattle.rules.specs.declared.LineAnswer.{LineAnswer}
+use Rattle.rules.specs.Answers.{LineAnswer}
 use Rattle.output.specs.Line.{leaves}
 use Rattle.opening.proofs.start.Kinds as start-kinds
 use Rattle.opening.proofs.start.Reads as start

@@ -5,19 +5,18 @@ ghost use Rattle.std.specs.Prelude.{◌≡◌};
 ghost use Rattle.rules.specs.Calls.{start_reading};
 ghost use Rattle.output.specs.Line.{lent, leaves};
 
-use formula::calls::CountsAnswer;
-use rules::LineAnswer;
+use formula::calls::counts;
+use rules::{Reading, Refusal};
 
 // The first reading state, with the words needed 0 in both rows; or a refusal, 1 to 8 and 10, which leaves them as found.
-pub fn start(file: &[u8], horizon: usize, given: &mut [u64], truth: &mut [u64]) -> LineAnswer
+pub fn start(
+    file: &[u8],
+    horizon: usize,
+    given: &mut [u64],
+    truth: &mut [u64],
+) -> Result<Reading, Refusal>
     ensures { leaves result given.new truth.new ≡ start_reading file.now horizon (lent given.old truth.old) }
 {
-    let counted = formula::calls::counts(file, horizon);
-    match counted {
-        CountsAnswer::Refused(why) => LineAnswer::Refused(why),
-        CountsAnswer::Found {
-            variables,
-            clauses: _,
-        } => output::start(variables, given, truth),
-    }
+    let counts = counts(file, horizon)?;
+    output::start(counts.variables, given, truth)
 }

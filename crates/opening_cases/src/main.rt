@@ -4,7 +4,7 @@
 
 ghost use Rattle.std.specs.Prelude.{◌≤◌};
 
-use rules::LineAnswer;
+use rules::{Reading, Refusal};
 use showing::{name_of, print_refusal, print_row};
 use std::io;
 
@@ -13,13 +13,13 @@ const ROW_WORDS: usize = 8;
 // A horizon that would be 1 if it were cut to 32 bits or fewer.
 const WIDE: usize = 4294967297;
 
-fn print_answer(rt: &impl Print, answer: LineAnswer) -> io::Result<()> {
+fn print_answer(rt: &impl Print, answer: Result<Reading, Refusal>) -> io::Result<()> {
     match answer {
-        LineAnswer::Next(reading) => {
+        Ok(reading) => {
             let phase = reading.phase;
             print!(rt; " : next {} {}", reading.highest, name_of(phase))
         }
-        LineAnswer::Refused(why) => {
+        Err(why) => {
             print!(rt; " : refused ")?;
             print_refusal(rt, why)
         }

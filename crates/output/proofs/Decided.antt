@@ -4,7 +4,7 @@ use mathlib.Core.Path.{◌≡◌, sym, ap, ap₂, ◌∙◌}
 use borrow.Fn.Kinds.{Dens, ended_of}
 use contract.Lifetimes.{Lfts}
 use denote.Triple.Clauses.{AtExit}
-use Rattle.rules.specs.declared.LineAnswer.{LineAnswer}
+use Rattle.rules.specs.Answers.{LineAnswer}
 use Rattle.output.specs.Line.{leaves}
 use Rattle.output.specs.Feeding.{feed_leaves}
 use Rattle.output.specs.declared.feeding.Feed.{Feed}

@@ -1,5 +1,6 @@
 -- Laws of feeding: line by line, pieces do not matter, and the end comes to the rules' reading of the whole output.
 -- Assumes nothing.
+use Rattle.std.specs.Prelude.{Ok, Err}
 use mathlib.Core.Path.{◌≡◌, refl, sym, ap, ap₂, ◌∙◌}
 use mathlib.Core.Logic.{⊎_elim}
 use mathlib.Core.Bool.{Bool, true, false, cond, not}
@@ -17,7 +18,7 @@ use Rattle.rules.specs.Lines.{read_line}
 use Rattle.rules.specs.declared.Refusal.{Refusal}
 use Rattle.rules.specs.declared.Refusal.TheVariants.{Room}
 use Rattle.rules.specs.declared.Reading.{Reading}
-use Rattle.rules.specs.declared.LineAnswer.{LineAnswer}
+use Rattle.rules.specs.Answers.{LineAnswer}
 use Rattle.rules.proofs.Bools.{either, below_or, and_left, not_true, not_false}
 use Rattle.lent_bytes.specs.Words.{length_until, PieceEnds}
 use Rattle.lent_bytes.proofs.WordLaws.{piece_stops}
@@ -31,8 +32,8 @@ use Rattle.output.specs.declared.feeding.Feed.{Feed}
 
 pub room_line : (answer : LineAnswer) (g t line : ℕ) (r : Bool) → r ≡ room_for answer g t line → not r ≡ false → line_room ≤ line
 unfolding room_for
-room_line (LineAnswer.Next reading) g t line r e k = leb-true line_room line (and_left (leb line_room line) (both_fit reading.highest g t) (sym e ∙ not_false r k))
-room_line (LineAnswer.Refused why) g t line r e k = leb-true line_room line (sym e ∙ not_false r k)
+room_line (Ok reading) g t line r e k = leb-true line_room line (and_left (leb line_room line) (both_fit reading.highest g t) (sym e ∙ not_false r k))
+room_line (Err why) g t line r e k = leb-true line_room line (sym e ∙ not_false r k)
 
 -- ---- bytes of one line
 
@@ -67,7 +68,7 @@ then_length line part l held r h f m i =
     sym (length-take-le r l (omega (arith, ap length m ∙ length_over line held (take (line_room - held) part) fits)))
 
 abbrev holding : Reading → Rows → (held : ℕ) (line : List ℕ) → Fed
-holding reading rows held line = record { progress = record { answer = LineAnswer.Next reading; rows = rows }; held = held; line = line }
+holding reading rows held line = record { progress = record { answer = Ok reading; rows = rows }; held = held; line = line }
 
 -- a byte that is held is the first of those that go there
 held_first : (line : List ℕ) (held : ℕ) (b : ℕ) (part : List ℕ) → held < line_room → line_room ≤ length line
@@ -105,11 +106,11 @@ part_held reading rows held line (b ∷ part) a h f =
     (either (eqb b lf))
 
 -- a refused line ends the reading
-byte_stays : (answer : LineAnswer) (why : Refusal) (rows : Rows) (held : ℕ) (line : List ℕ) (b : ℕ) → answer ≡ LineAnswer.Refused why
+byte_stays : (answer : LineAnswer) (why : Refusal) (rows : Rows) (held : ℕ) (line : List ℕ) (b : ℕ) → answer ≡ Err why
     → ◌≡◌ {A = Fed} (fed_byte answer rows held line b) (record { progress = record { answer = answer; rows = rows }; held = held; line = line })
 byte_stays answer why rows held line b e = rw e
 
-pub fed_stays : (fed : Fed) (why : Refusal) (bytes : List ℕ) → fed.progress.answer ≡ LineAnswer.Refused why → feed_all fed bytes ≡ fed
+pub fed_stays : (fed : Fed) (why : Refusal) (bytes : List ℕ) → fed.progress.answer ≡ Err why → feed_all fed bytes ≡ fed
 unfolding feed_all feed_byte
 fed_stays fed why [] e = refl
 fed_stays fed why (b ∷ bytes) e =
@@ -130,10 +131,10 @@ part_all fed part true = sym (foldl-append feed_byte fed part (lf ∷ []))
 part_all fed part false = ap (feed_all fed) (sym (append-nil part))
 
 module _ (state : Feed) (g t line part : List ℕ) (ends : Bool) where
-  pub part_refused : (why : Refusal) → state.answer ≡ LineAnswer.Refused why → feed_leaves state g t line ≡ feed_part (feed_leaves state g t line) part ends
+  pub part_refused : (why : Refusal) → state.answer ≡ Err why → feed_leaves state g t line ≡ feed_part (feed_leaves state g t line) part ends
   part_refused why e = sym (part_all (feed_leaves state g t line) part ends ∙ fed_stays (feed_leaves state g t line) why (part ++ closing ends) e)
 
-  module _ (reading : Reading) (e : state.answer ≡ LineAnswer.Next reading) (r : ℕ) (l : List ℕ) (i : r ≡ held_then state.held (length part))
+  module _ (reading : Reading) (e : state.answer ≡ Ok reading) (r : ℕ) (l : List ℕ) (i : r ≡ held_then state.held (length part))
       (m : l ≡ line_then line state.held part) (a : WithoutLF part) (h : state.held ≤ line_room) (f : line_room ≤ length line) where
     held_so : feed_all (feed_leaves state g t line) part ≡ holding reading (lent g t) r l
     held_so =
@@ -141,7 +142,7 @@ module _ (state : Feed) (g t line part : List ℕ) (ends : Bool) where
         ∙ part_held reading (lent g t) state.held line part a h f
         ∙ ap₂ (holding reading (lent g t)) (sym i) (sym m)
 
-    pub part_open : ends ≡ false → feed_leaves (record { answer = LineAnswer.Next reading; held = r }) g t l ≡ feed_part (feed_leaves state g t line) part ends
+    pub part_open : ends ≡ false → feed_leaves (record { answer = Ok reading; held = r }) g t l ≡ feed_part (feed_leaves state g t line) part ends
     unfolding feed_part
     part_open n = rw n (sym held_so)
 
@@ -188,11 +189,11 @@ fed_done fed whole bytes i h k = rw (drop_of_length-le bytes h) at k
 
 module _ (state : Feed) (g t line : List ℕ) (r : Bool) (room : r ≡ room_for state.answer (length g) (length t) (length line)) where
   pub call_short : (bytes : List ℕ) → not r ≡ true
-      → feed_leaves (record { answer = LineAnswer.Refused Room; held = state.held }) g t line ≡ feed_call (feed_leaves state g t line) bytes
+      → feed_leaves (record { answer = Err Room; held = state.held }) g t line ≡ feed_call (feed_leaves state g t line) bytes
   unfolding feed_call has_room
   call_short bytes h = rw (sym room ∙ not_true r h)
 
-  pub end_short : not r ≡ true → leaves (LineAnswer.Refused Room) g t ≡ finish_call (feed_leaves state g t line)
+  pub end_short : not r ≡ true → leaves (Err Room) g t ≡ finish_call (feed_leaves state g t line)
   unfolding finish_call has_room
   end_short h = rw (sym room ∙ not_true r h)
 
@@ -203,12 +204,12 @@ module _ (state : Feed) (g t line : List ℕ) (r : Bool) (room : r ≡ room_for 
     unfolding feed_call has_room
     call_done bytes h fed i e d k = fed_done fed _ bytes i d k ∙ rw (sym room ∙ not_false r ok, e)
 
-    pub end_refused : (why : Refusal) → state.answer ≡ LineAnswer.Refused why → leaves state.answer g t ≡ finish_call (feed_leaves state g t line)
+    pub end_refused : (why : Refusal) → state.answer ≡ Err why → leaves state.answer g t ≡ finish_call (feed_leaves state g t line)
     unfolding finish_call has_room finish
     end_refused why e = rw (sym room ∙ not_false r ok) (rw e)
 
-    module _ (h : ℕ) (e : h ≡ min state.held line_room) (reading : Reading) (a : state.answer ≡ LineAnswer.Next reading) where
-      pub end_empty : h ≡ 0 → leaves (LineAnswer.Next reading) g t ≡ finish_call (feed_leaves state g t line)
+    module _ (h : ℕ) (e : h ≡ min state.held line_room) (reading : Reading) (a : state.answer ≡ Ok reading) where
+      pub end_empty : h ≡ 0 → leaves (Ok reading) g t ≡ finish_call (feed_leaves state g t line)
       unfolding finish_call has_room finish
       end_empty z = rw (sym room ∙ not_false r ok) (rw (a, eq-eqb (min state.held line_room) 0 (sym e ∙ z)))
 

@@ -11,7 +11,7 @@ use borrow.Author.Tests.{ne_eqb, eqb-true, leb-true, le-leb, lt-leb}
 use lib.Dec.{eqb, leb}
 use lib.ListN.{length, replicate}
 use Rattle.rules.specs.Limits.{max_line}
-use Rattle.rules.specs.Answers.{demand, judge, in_turn}
+use Rattle.rules.specs.Answers.{demand, judge, in_turn, Verdict, LineAnswer}
 use Rattle.rules.specs.File.{byte}
 use Rattle.rules.specs.Text.{space}
 use Rattle.rules.specs.Problem.{Problem}
@@ -21,12 +21,9 @@ use Rattle.rules.specs.Lines.{scan_line, awaits_numbers, comment, status, number
 use Rattle.rules.specs.Output.{first_reading, cleared_rows}
 use Rattle.rules.specs.declared.Refusal.{Refusal}
 use Rattle.rules.specs.declared.Refusal.TheVariants.{Room, Grammar, OutOfPlace}
-use Rattle.rules.specs.declared.Verdict.{Verdict}
-use Rattle.rules.specs.declared.Verdict.TheVariants.{Accepted, Refused}
 use Rattle.rules.specs.declared.Phase.{Phase}
 use Rattle.rules.specs.declared.Phase.TheVariants.{NoStatus, ModelOpen, ModelClosed}
 use Rattle.rules.specs.declared.Reading.{Reading}
-use Rattle.rules.specs.declared.LineAnswer.{LineAnswer}
 use Rattle.rules.proofs.Bools.{and_left, and_right, not_true, not_false}
 use Rattle.output.specs.Trial.{trial_leaves, stop_of, trial, first_gap, number_pieces, rewritten}
 use Rattle.output.specs.Line.{lent, leaves, both_fit, started, by_kind, answer_to}
@@ -78,16 +75,16 @@ module _ (reading : Reading) (g t line : List ℕ) (a : Bool) (awaits : a ≡ aw
       ap (λ a. in_turn (judge (demand a (OutOfPlace 0) ∷ demand (eqb (length line) 1 || eqb (byte line 1) space) (Grammar 1) ∷ [])) (scan_line reading.highest g line).verdict)
       (sym awaits)
 
-  refused_by : (why : Refusal) → kind_verdict numbers reading g line ≡ Refused why → leaves (LineAnswer.Refused why) g t ≡ by_kind numbers reading (lent g t) line
+  refused_by : (why : Refusal) → kind_verdict numbers reading g line ≡ Err why → leaves (Err why) g t ≡ by_kind numbers reading (lent g t) line
   unfolding by_kind
   refused_by why e = rw e
 
-  pub numbers_out : not a ≡ true → leaves (LineAnswer.Refused (OutOfPlace 0)) g t ≡ by_kind numbers reading (lent g t) line
+  pub numbers_out : not a ≡ true → leaves (Err (OutOfPlace 0)) g t ≡ by_kind numbers reading (lent g t) line
   unfolding judge
   numbers_out n = refused_by (OutOfPlace 0) (numbers_verdict ∙ rw (not_true a n) refl)
 
   module _ (n : not a ≡ false) (s : Bool) (alone : s ≡ (eqb (length line) 1 || eqb (byte line 1) space)) where
-    pub numbers_apart : not s ≡ true → leaves (LineAnswer.Refused (Grammar 1)) g t ≡ by_kind numbers reading (lent g t) line
+    pub numbers_apart : not s ≡ true → leaves (Err (Grammar 1)) g t ≡ by_kind numbers reading (lent g t) line
     unfolding judge
     numbers_apart m = refused_by (Grammar 1) (numbers_verdict ∙ rw (not_false a n, sym alone ∙ not_true s m) refl)
 
@@ -106,14 +103,14 @@ module _ (reading : Reading) (g t line : List ℕ) (a : Bool) (awaits : a ≡ aw
             rw (sym tried) at (line_back reading.highest (lent g t) line fit (kind_v line kind) (sym alone ∙ not_false s m) stopped (ap (λ x. x.answer) (sym tried) ∙ e))
 
         pub numbers_stopped : (g'' : List ℕ) → g'' ≡ rewritten false stopped.gap g' first_gap (number_pieces line)
-            → leaves (LineAnswer.Refused stopped.why) g'' t ≡ by_kind numbers reading (lent g t) line
+            → leaves (Err stopped.why) g'' t ≡ by_kind numbers reading (lent g t) line
         numbers_stopped g'' w =
-            ap (λ x. leaves (LineAnswer.Refused stopped.why) x t) (w ∙ back_again)
+            ap (λ x. leaves (Err stopped.why) x t) (w ∙ back_again)
             ∙ refused_by stopped.why (by_scan ∙ (rw e at agrees))
 
-      passed_by : (c : Bool) → (scan_line reading.highest g line).verdict ≡ Accepted → (scan_line reading.highest g line).closed ≡ c
+      passed_by : (c : Bool) → (scan_line reading.highest g line).verdict ≡ Ok tt → (scan_line reading.highest g line).closed ≡ c
           → ◌≡◌ {A = Progress} (record {
-            answer = LineAnswer.Next (record { highest = reading.highest; phase = cond c ModelClosed ModelOpen });
+            answer = Ok (record { highest = reading.highest; phase = cond c ModelClosed ModelOpen });
             rows = store_all (lent g t) (scan_line reading.highest g line).named;
           }) (by_kind numbers reading (lent g t) line)
       unfolding by_kind phase_after named
@@ -121,11 +118,11 @@ module _ (reading : Reading) (g t line : List ℕ) (a : Bool) (awaits : a ≡ aw
 
       pub numbers_through : (c : Bool) (t' : List ℕ) (phase : Phase) → r ≡ Ok c → t' ≡ rewritten true (length line) t first_gap (number_pieces line)
           → phase ≡ cond c ModelClosed ModelOpen
-          → leaves (LineAnswer.Next (record { highest = reading.highest; phase = phase })) g' t' ≡ by_kind numbers reading (lent g t) line
+          → leaves (Ok (record { highest = reading.highest; phase = phase })) g' t' ≡ by_kind numbers reading (lent g t) line
       numbers_through c t' phase e w p =
           let f : Agree reading.highest (lent g t) fit (Ok c) g' (rewritten true (length line) t first_gap (number_pieces line)) (scan_line reading.highest g line) =
           rw e at agrees in
-          ap₂ (λ phase rows. record { answer = LineAnswer.Next (record { highest = reading.highest; phase = phase }); rows = rows }) p
+          ap₂ (λ phase rows. record { answer = Ok (record { highest = reading.highest; phase = phase }); rows = rows }) p
           (ap (lent g') w ∙ f.2)
           ∙ passed_by c f.0 f.1
 
@@ -133,8 +130,8 @@ module _ (reading : Reading) (g t line : List ℕ) (a : Bool) (awaits : a ≡ aw
 
 nothing_named : (judged : Verdict) (next : Reading) (g t : List ℕ) → leaves (progress judged next [] (lent [] [])).answer g t ≡ progress judged next [] (lent g t)
 unfolding store_all
-nothing_named Accepted next g t = refl
-nothing_named (Refused why) next g t = refl
+nothing_named (Ok _) next g t = refl
+nothing_named (Err why) next g t = refl
 
 keeps_comment : (reading : Reading) (g t line : List ℕ) → leaves (answer_to comment reading line) g t ≡ by_kind comment reading (lent g t) line
 unfolding answer_to by_kind kind_verdict phase_after named
@@ -164,13 +161,13 @@ module _ (highest g t : ℕ) (r : Bool) (fit : r ≡ both_fit highest g t) (ok :
 -- ---- any line
 
 module _ (reading : Reading) (g t line : List ℕ) where
-  refuses : (why : Refusal) → in_turn (judge (demand (rows_fit reading.highest (lent g t)) Room ∷ [])) (line_verdict reading g line) ≡ Refused why
-      → leaves (LineAnswer.Refused why) g t ≡ read_line reading (lent g t) line
+  refuses : (why : Refusal) → in_turn (judge (demand (rows_fit reading.highest (lent g t)) Room ∷ [])) (line_verdict reading g line) ≡ Err why
+      → leaves (Err why) g t ≡ read_line reading (lent g t) line
   unfolding read_line
   refuses why e = rw e
 
   module _ (r : Bool) (fit : r ≡ both_fit reading.highest (length g) (length t)) where
-    pub line_room_lem : not r ≡ true → leaves (LineAnswer.Refused Room) g t ≡ read_line reading (lent g t) line
+    pub line_room_lem : not r ≡ true → leaves (Err Room) g t ≡ read_line reading (lent g t) line
     unfolding judge rows_fit both_fit
     line_room_lem h = refuses Room (rw (sym fit ∙ not_true r h) refl)
 
@@ -179,7 +176,7 @@ module _ (reading : Reading) (g t line : List ℕ) where
       unfolding rows_fit both_fit
       fits = sym fit ∙ not_false r ok
 
-      pub line_long : max_line < length line → leaves (LineAnswer.Refused (Grammar max_line)) g t ≡ read_line reading (lent g t) line
+      pub line_long : max_line < length line → leaves (Err (Grammar max_line)) g t ≡ read_line reading (lent g t) line
       unfolding judge line_verdict
       line_long h = refuses (Grammar max_line) (rw (fits, lt-leb (length line) max_line h) refl)
 
@@ -201,30 +198,30 @@ module _ (reading : Reading) (g t line : List ℕ) where
           line_numbers p e a = a ∙ ap (λ k. by_kind k reading (lent g t) line) (sym (kind_numbers line b first e)) ∙ line_is
 
           pub line_neither : (b ≡ code "c" → ⊥) → (b ≡ code "s" → ⊥) → (b ≡ code "v" → ⊥)
-              → leaves (LineAnswer.Refused (Grammar 0)) g t ≡ read_line reading (lent g t) line
+              → leaves (Err (Grammar 0)) g t ≡ read_line reading (lent g t) line
           unfolding by_kind kind_verdict
           line_neither c s v =
-              let n : leaves (LineAnswer.Refused (Grammar 0)) g t ≡ by_kind neither reading (lent g t) line = refl in
+              let n : leaves (Err (Grammar 0)) g t ≡ by_kind neither reading (lent g t) line = refl in
               n ∙ ap (λ k. by_kind k reading (lent g t) line) (sym (kind_other line b first c s v)) ∙ line_is
 
 -- ---- the start
 
 module _ (highest : ℕ) (g t : List ℕ) (r : Bool) (fit : r ≡ both_fit highest (length g) (length t)) where
-  pub start_room : not r ≡ true → leaves (LineAnswer.Refused Room) g t ≡ started highest (lent g t)
+  pub start_room : not r ≡ true → leaves (Err Room) g t ≡ started highest (lent g t)
   unfolding started rows_fit both_fit
   start_room h = rw (sym fit ∙ not_true r h)
 
   pub start_clears : (words : ℕ) (g' t' : List ℕ) → not r ≡ false → words ≡ words_for highest → g' ≡ over_row (replicate words 0) g → t' ≡ over_row (replicate words 0) t
-      → leaves (LineAnswer.Next (record { highest = highest; phase = NoStatus })) g' t' ≡ started highest (lent g t)
+      → leaves (Ok (record { highest = highest; phase = NoStatus })) g' t' ≡ started highest (lent g t)
   unfolding started rows_fit both_fit
   start_clears words g' t' h need e f =
       rw (sym fit ∙ not_false r h)
-      (ap₂ (leaves (LineAnswer.Next (record { highest = highest; phase = NoStatus })))
+      (ap₂ (leaves (Ok (record { highest = highest; phase = NoStatus })))
       (e ∙ ap (λ n. over_row (replicate n 0) g) need)
       (f ∙ ap (λ n. over_row (replicate n 0) t) need))
 
 -- with N of a problem it is the rules' own start
 pub start_is : (P : Problem) (rows : Rows) → rows_fit (N P) rows ≡ true
-    → ◌≡◌ {A = Progress} (started (N P) rows) (record { answer = LineAnswer.Next (first_reading P); rows = cleared_rows P rows })
+    → ◌≡◌ {A = Progress} (started (N P) rows) (record { answer = Ok (first_reading P); rows = cleared_rows P rows })
 unfolding started cleared_rows
 start_is P rows h = rw h

@@ -1,5 +1,6 @@
 -- A whole model said by a solver, a literal a line: the reading ends closed, with rows that hold just what was said.
 -- Assumes nothing.
+use Rattle.std.specs.Prelude.{Ok}
 use mathlib.Core.Path.{◌≡◌, refl, sym, ap, ◌∙◌}
 use mathlib.Core.Logic.{⊎_elim}
 use mathlib.Core.Bool.{Bool, true, false, cond}
@@ -14,7 +15,6 @@ use Rattle.rules.specs.Families.{Literal, plus, minus}
 use Rattle.rules.specs.Rows.{Rows, word_bits, words_for, bit_of_variable, with_variable, store}
 use Rattle.rules.specs.Lines.{rows_fit, says_satisfiable, Progress}
 use Rattle.rules.specs.Output.{read_on, read_lines}
-use Rattle.rules.specs.declared.LineAnswer.{LineAnswer}
 use Rattle.rules.specs.declared.Phase.{Phase}
 use Rattle.rules.specs.declared.Phase.TheVariants.{NoStatus, ModelOpen, ModelClosed}
 use Rattle.rules.specs.declared.Reading.{Reading}
@@ -132,7 +132,7 @@ module _ (bits : List Bool) (rows : Rows) (fit : rows_fit (length bits) rows ≡
   reading phase = record { highest = length bits; phase = phase }
 
   abbrev after : Phase → Rows → Progress
-  after phase held = record { answer = LineAnswer.Next (reading phase); rows = held }
+  after phase held = record { answer = Ok (reading phase); rows = held }
 
   abbrev step : Progress → List ℕ → Progress
   step p line = read_on p.answer p.rows line

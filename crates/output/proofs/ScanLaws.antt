@@ -13,15 +13,13 @@ use borrow.Author.Tests.{eq-eqb, ne_eqb, eqb-true, eqb-false, leb-true}
 use lib.Dec.{eqb, leb, ltb}
 use lib.ListN.{length, drop, length-drop}
 use Rattle.rules.specs.Counting.{first, any}
-use Rattle.rules.specs.Answers.{judge}
+use Rattle.rules.specs.Answers.{judge, Verdict}
 use Rattle.rules.specs.File.{byte}
 use Rattle.rules.specs.Text.{space}
 use Rattle.rules.specs.Families.{Literal}
 use Rattle.rules.specs.Rows.{word_bits, words_for, bit_of_variable, with_variable, Rows, store, store_all}
 use Rattle.rules.specs.Lines.{onto, pieces, reach, is_number, is_negative, variable_of, literal_of, names, Scan, word_rules, scan_word, scan_piece, go_on, scan_pieces, scan_start, scan_line}
 use Rattle.rules.specs.declared.Refusal.{Refusal}
-use Rattle.rules.specs.declared.Verdict.{Verdict}
-use Rattle.rules.specs.declared.Verdict.TheVariants.{Accepted, Refused}
 use Rattle.rules.proofs.Bools.{either, or_right, or_cases, not_true}
 use Rattle.rules.proofs.Judging.{judge_head, judge_tail}
 use Rattle.rows.proofs.Bits.{length-with, bit_written, bit_kept, with_restored, with_order}
@@ -62,7 +60,7 @@ any_snoc q (y ∷ l) x = ap (λ b. q y || b) (any_snoc q l x) ∙ sym (or_assoc 
 
 -- ---- a word that the rules let pass
 
-module _ (highest : ℕ) (row : List ℕ) (scan : Scan) (p : List ℕ) (ok : judge (word_rules highest row scan p) ≡ Accepted) where
+module _ (highest : ℕ) (row : List ℕ) (scan : Scan) (p : List ℕ) (ok : judge (word_rules highest row scan p) ≡ Ok tt) where
   passed_number : is_number p ≡ true
   unfolding word_rules
   passed_number = judge_head _ _ ok
@@ -114,15 +112,15 @@ total_behind separator (b ∷ s) = total_pieces separator s
 
 -- ---- the scan, piece by piece
 
-stays : (judged : Verdict) (next scan : Scan) (why : Refusal) → judged ≡ Refused why → go_on judged next scan ≡ scan
+stays : (judged : Verdict) (next scan : Scan) (why : Refusal) → judged ≡ Err why → go_on judged next scan ≡ scan
 stays judged next scan why e = rw e
 
-scan_next : (highest : ℕ) (row : List ℕ) (scan : Scan) (p : List ℕ) (ps : List (List ℕ)) → scan.verdict ≡ Accepted
+scan_next : (highest : ℕ) (row : List ℕ) (scan : Scan) (p : List ℕ) (ps : List (List ℕ)) → scan.verdict ≡ Ok tt
     → scan_pieces highest row scan (p ∷ ps) ≡ scan_pieces highest row (scan_piece highest row scan p) ps
 unfolding scan_pieces
 scan_next highest row scan p ps e = rw e
 
-scan_stays : (highest : ℕ) (row : List ℕ) (scan : Scan) (why : Refusal) (ps : List (List ℕ)) → scan.verdict ≡ Refused why
+scan_stays : (highest : ℕ) (row : List ℕ) (scan : Scan) (why : Refusal) (ps : List (List ℕ)) → scan.verdict ≡ Err why
     → scan_pieces highest row scan ps ≡ scan
 unfolding scan_pieces
 scan_stays highest row scan why [] e = refl
@@ -143,13 +141,13 @@ rewritten_empty signs stop row gap ps = ⊎_elim (λ t. rw t refl) (λ t. rw t r
 
 module _ (highest : ℕ) (row : List ℕ) (gap : ℕ) (closed : Bool) (b : ℕ) (w : List ℕ) (ps : List (List ℕ)) where
   abbrev trial_verdict : Verdict
-  trial_verdict = judge (word_rules highest row (record { verdict = Accepted; at = suc gap; closed = closed; named = [] }) (b ∷ w))
+  trial_verdict = judge (word_rules highest row (record { verdict = Ok tt; at = suc gap; closed = closed; named = [] }) (b ∷ w))
 
-  trial_word_refused : (why : Refusal) → trial_verdict ≡ Refused why → trial highest row gap closed ((b ∷ w) ∷ ps) ≡ trial_leaves (Err (record { why = why; gap = gap })) row
+  trial_word_refused : (why : Refusal) → trial_verdict ≡ Err why → trial highest row gap closed ((b ∷ w) ∷ ps) ≡ trial_leaves (Err (record { why = why; gap = gap })) row
   unfolding trial piece_scan scan_piece scan_word
   trial_word_refused why e = rw e
 
-  trial_word_passed : trial_verdict ≡ Accepted
+  trial_word_passed : trial_verdict ≡ Ok tt
       → trial highest row gap closed ((b ∷ w) ∷ ps)
       ≡ trial highest (written true row (b ∷ w)) (gap + suc (length (b ∷ w))) (closed || eqb (variable_of (b ∷ w)) 0) ps
   unfolding trial piece_scan scan_piece scan_word
@@ -160,7 +158,7 @@ module _ (highest : ℕ) (row : List ℕ) (gap : ℕ) (closed : Bool) (b : ℕ) 
 module _ (highest : ℕ) (rows₀ : Rows) (fit : words_for highest ≤ length rows₀.given) where
   -- where both have come: the scan has named what the rows have stored
   record Ready (scan : Scan) (rows : Rows) (gap : ℕ) : Type 0 where
-    so_far : scan.verdict ≡ Accepted
+    so_far : scan.verdict ≡ Ok tt
     place : scan.at ≡ suc gap
     stored : rows ≡ store_all rows₀ scan.named
     long : length rows.given ≡ length rows₀.given
@@ -182,7 +180,7 @@ module _ (highest : ℕ) (rows₀ : Rows) (fit : words_for highest ≤ length ro
   -- the marks say what the rules ask of the rows as they were and of what was named since
   same_verdict : (scan : Scan) (rows : Rows) (gap : ℕ) (p : List ℕ) → Ready scan rows gap
       → judge (word_rules highest rows₀.given scan p)
-      ≡ judge (word_rules highest rows.given (record { verdict = Accepted; at = suc gap; closed = scan.closed; named = [] }) p)
+      ≡ judge (word_rules highest rows.given (record { verdict = Ok tt; at = suc gap; closed = scan.closed; named = [] }) p)
   unfolding word_rules judge any
   same_verdict scan rows gap p r =
       ⊎_elim (λ t. rw (same_new scan rows gap (variable_of p) r (leb-true (variable_of p) highest t), r.place))
@@ -192,8 +190,8 @@ module _ (highest : ℕ) (rows₀ : Rows) (fit : words_for highest ≤ length ro
   -- how the trial and the scan of what is left end
   abbrev pub Agree : Result Bool Stopped → (given is_true : List ℕ) → Scan → Type 0
   Agree (Ok c) given is_true s =
-      (s.verdict ≡ Accepted) × (s.closed ≡ c) × (◌≡◌ {A = Rows} (record { given = given; is_true = is_true }) (store_all rows₀ s.named))
-  Agree (Err stopped) given is_true s = s.verdict ≡ Refused stopped.why
+      (s.verdict ≡ Ok tt) × (s.closed ≡ c) × (◌≡◌ {A = Rows} (record { given = given; is_true = is_true }) (store_all rows₀ s.named))
+  Agree (Err stopped) given is_true s = s.verdict ≡ Err stopped.why
 
   -- what comes after an empty piece, after the closing 0, and after a variable
   ready_empty : (scan : Scan) (rows : Rows) (gap : ℕ) → Ready scan rows gap → Ready (scan_piece highest rows₀.given scan []) rows (gap + 1)
@@ -201,7 +199,7 @@ module _ (highest : ℕ) (rows₀ : Rows) (fit : words_for highest ≤ length ro
   ready_empty scan rows gap r = record { so_far = r.so_far; place = omega (arith, r.place); stored = r.stored; long = r.long; bits = r.bits }
 
   module _ (scan : Scan) (rows : Rows) (gap : ℕ) (p : List ℕ) (r : Ready scan rows gap)
-      (ok : judge (word_rules highest rows₀.given scan p) ≡ Accepted) where
+      (ok : judge (word_rules highest rows₀.given scan p) ≡ Ok tt) where
     ready_zero : variable_of p ≡ 0 → Ready (scan_word highest rows₀.given scan p) rows (gap + suc (length p))
     unfolding scan_word
     ready_zero z =
@@ -253,7 +251,7 @@ module _ (highest : ℕ) (rows₀ : Rows) (fit : words_for highest ≤ length ro
 
   module _ (stop b : ℕ) (w : List ℕ) (ps : List (List ℕ)) (rest : Agreement stop ps) (scan : Scan) (rows : Rows) (gap : ℕ) (r : Ready scan rows gap)
       (h : gap + total ((b ∷ w) ∷ ps) ≤ stop) where
-    agree_refused : (why : Refusal) → judge (word_rules highest rows₀.given scan (b ∷ w)) ≡ Refused why → Agreed stop ((b ∷ w) ∷ ps) scan rows gap
+    agree_refused : (why : Refusal) → judge (word_rules highest rows₀.given scan (b ∷ w)) ≡ Err why → Agreed stop ((b ∷ w) ∷ ps) scan rows gap
     unfolding scan_piece scan_word
     agree_refused why e =
         rw (trial_word_refused highest rows.given gap scan.closed b w ps why (sym (same_verdict scan rows gap (b ∷ w) r) ∙ e))
@@ -261,7 +259,7 @@ module _ (highest : ℕ) (rows₀ : Rows) (fit : words_for highest ≤ length ro
         (scan_next highest rows₀.given scan (b ∷ w) ps r.so_far ∙ scan_stays highest rows₀.given (scan_piece highest rows₀.given scan (b ∷ w)) why ps e)
         ∙ e)
 
-    agree_passed : judge (word_rules highest rows₀.given scan (b ∷ w)) ≡ Accepted → Agreed stop ((b ∷ w) ∷ ps) scan rows gap
+    agree_passed : judge (word_rules highest rows₀.given scan (b ∷ w)) ≡ Ok tt → Agreed stop ((b ∷ w) ∷ ps) scan rows gap
     unfolding total scan_piece scan_word
     agree_passed e =
         let p : List ℕ = b ∷ w in
@@ -286,8 +284,8 @@ module _ (highest : ℕ) (rows₀ : Rows) (fit : words_for highest ≤ length ro
         (either (eqb (variable_of p) 0)))
 
     agree_word : (judged : Verdict) → judge (word_rules highest rows₀.given scan (b ∷ w)) ≡ judged → Agreed stop ((b ∷ w) ∷ ps) scan rows gap
-    agree_word Accepted e = agree_passed e
-    agree_word (Refused why) e = agree_refused why e
+    agree_word (Ok _) e = agree_passed e
+    agree_word (Err why) e = agree_refused why e
 
   agree : (stop : ℕ) (ps : List (List ℕ)) → Agreement stop ps
   agree stop [] = agree_none stop
@@ -324,7 +322,7 @@ clear_last stop row gap p (q ∷ ps) =
     (either (ltb gap stop))
 
 -- a word that passed had its bit 0
-clear_marked : (highest : ℕ) (row : List ℕ) (scan : Scan) (p : List ℕ) → judge (word_rules highest row scan p) ≡ Accepted
+clear_marked : (highest : ℕ) (row : List ℕ) (scan : Scan) (p : List ℕ) → judge (word_rules highest row scan p) ≡ Ok tt
     → written false (written true row p) p ≡ row
 clear_marked highest row scan p ok =
     let a : is_number p ≡ true = passed_number highest row scan p ok in
@@ -356,9 +354,9 @@ back_empty highest row gap closed ps rest =
 
 back_word : (highest : ℕ) (row : List ℕ) (gap : ℕ) (closed : Bool) (b : ℕ) (w : List ℕ) (ps : List (List ℕ))
     → Back highest (written true row (b ∷ w)) (gap + suc (length (b ∷ w))) (closed || eqb (variable_of (b ∷ w)) 0) ps
-    → (judged : Verdict) → judge (word_rules highest row (record { verdict = Accepted; at = suc gap; closed = closed; named = [] }) (b ∷ w)) ≡ judged
+    → (judged : Verdict) → judge (word_rules highest row (record { verdict = Ok tt; at = suc gap; closed = closed; named = [] }) (b ∷ w)) ≡ judged
     → Back highest row gap closed ((b ∷ w) ∷ ps)
-back_word highest row gap closed b w ps rest Accepted ok =
+back_word highest row gap closed b w ps rest (Ok _) ok =
     rw (trial_word_passed highest row gap closed b w ps ok) (λ stopped e.
     let p : List ℕ = b ∷ w in
     let end : List ℕ = (trial highest (written true row p) (gap + suc (length p)) (closed || eqb (variable_of p) 0) ps).row in
@@ -369,7 +367,7 @@ back_word highest row gap closed b w ps rest Accepted ok =
           ∙ ap (λ r. written false r p) (rest stopped e).1
           ∙ clear_marked highest row _ p ok,
     ))
-back_word highest row gap closed b w ps rest (Refused y) ok =
+back_word highest row gap closed b w ps rest (Err y) ok =
     rw (trial_word_refused highest row gap closed b w ps y ok) (λ stopped e.
     let here : gap ≡ stopped.gap = (let f : ◌≡◌ {A = Result Bool Stopped} (Err (record { why = y; gap = gap })) (Err stopped) = e in ap stop_of f) in
     (omega arith, rewritten_all false stopped.gap row gap ((b ∷ w) ∷ ps) (omega arith)))

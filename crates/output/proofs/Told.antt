@@ -1,6 +1,7 @@
 -- The model program told a good schedule's model: for an accepted file, a horizon from 0 to 64 and entries that can be carried out and reach the goal, the
 -- program prints these entries when a solver says the schedule's assignment, a literal a line.
 -- Assumes nothing.
+use Rattle.std.specs.Prelude.{Ok}
 use mathlib.Core.Path.{◌≡◌, refl, sym, ap, ◌∙◌}
 use mathlib.Core.Bool.{Bool, true, false}
 use mathlib.Core.List.{List, [], ◌∷◌, ◌++◌, map, append_assoc}
@@ -26,8 +27,6 @@ use Rattle.rules.specs.Lines.{pieces, rows_fit, says_satisfiable}
 use Rattle.rules.specs.Output.{without_empty_last, lines_of, read_lines, read_output, outcome, first_reading}
 use Rattle.rules.specs.Calls.{problem_of, problem_verdict}
 use Rattle.rules.specs.Programs.{printed, schedule_text, fresh_rows, after_lines, model_output}
-use Rattle.rules.specs.declared.Verdict.TheVariants.{Accepted}
-use Rattle.rules.specs.declared.LineAnswer.{LineAnswer}
 use Rattle.rules.specs.declared.Phase.TheVariants.{NoStatus, ModelClosed}
 use Rattle.rules.proofs.Bools.{and_left, and_right, and_both}
 use Rattle.rules.proofs.Counting.{every_append, every_table}
@@ -89,7 +88,7 @@ none_given m v = rw (zeros_at m ((v - 1) / 64)) (rw (zero-div (2 ^ ((v - 1) % 64
 
 -- ---- the program
 
-module _ (file : List ℕ) (fine : file_verdict file ≡ Accepted) (k : ℕ) (small : k ≤ max_horizon) (entries : List ℕ) (size : k ≤ length entries)
+module _ (file : List ℕ) (fine : file_verdict file ≡ Ok tt) (k : ℕ) (small : k ≤ max_horizon) (entries : List ℕ) (size : k ≤ length entries)
     (c : CarriedOut (task_of file) k entries) where
   abbrev P : Problem
   P = problem_of file k
@@ -117,13 +116,13 @@ module _ (file : List ℕ) (fine : file_verdict file ≡ Accepted) (k : ℕ) (sm
   abbrev rows : Rows
   rows = held bits (fresh_rows P) fits few (none_given (words_for (N P)))
 
-  read : read_output (first_reading P) (fresh_rows P) (solver_says bits) ≡ record { answer = LineAnswer.Next (record { highest = N P; phase = ModelClosed }); rows = rows }
+  read : read_output (first_reading P) (fresh_rows P) (solver_says bits) ≡ record { answer = Ok (record { highest = N P; phase = ModelClosed }); rows = rows }
   unfolding read_output
   read =
       ap (read_lines (first_reading P) (fresh_rows P)) (lines_back bits)
       ∙ ap (λ n. read_lines (record { highest = n; phase = NoStatus }) (fresh_rows P) (model_lines bits)) (sym sized)
       ∙ model_read bits (fresh_rows P) fits few (none_given (words_for (N P)))
-      ∙ ap (λ n. record { answer = LineAnswer.Next (record { highest = n; phase = ModelClosed }); rows = rows }) sized
+      ∙ ap (λ n. record { answer = Ok (record { highest = n; phase = ModelClosed }); rows = rows }) sized
 
   -- the rows say what the assignment says
   agreeing : Agree P (model_in rows) (assigned bits)
@@ -138,7 +137,7 @@ module _ (file : List ℕ) (fine : file_verdict file ≡ Accepted) (k : ℕ) (sm
             ∙ as_said bits (fresh_rows P) fits few (none_given (words_for (N P))) (v - 1) (omega (arith, sized));
       }
 
-  accepted : outcome P ModelClosed rows ≡ Accepted
+  accepted : outcome P ModelClosed rows ≡ Ok tt
   unfolding problem_of
   accepted =
       holds_accepted P rows ModelClosed
@@ -151,7 +150,7 @@ module _ (file : List ℕ) (fine : file_verdict file ≡ Accepted) (k : ℕ) (sm
   unfolding problem_of
   schedule_told = schedule_alike P (model_in rows) (assigned bits) agreeing ∙ schedule_back (task_of file) k well entries size c
 
-  problem_fine : problem_verdict file k ≡ Accepted
+  problem_fine : problem_verdict file k ≡ Ok tt
   unfolding problem_verdict
   problem_fine = within file fine k small
 

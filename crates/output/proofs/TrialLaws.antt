@@ -16,14 +16,12 @@ use lib.Seq.{drop-cons, drop-drop}
 use native.Mathlib.Numerals.{add-one}
 use Rattle.rules.specs.Counting.{first, any}
 use Rattle.rules.specs.Limits.{max_line}
-use Rattle.rules.specs.Answers.{demand, judge}
+use Rattle.rules.specs.Answers.{demand, judge, Verdict}
 use Rattle.rules.specs.Text.{space}
 use Rattle.rules.specs.Rows.{bit_of_variable, with_variable}
 use Rattle.rules.specs.Lines.{reach, is_number, is_negative, variable_of, names, Scan, word_rules, scan_word, scan_piece}
 use Rattle.rules.specs.declared.Refusal.{Refusal}
 use Rattle.rules.specs.declared.Refusal.TheVariants.{Grammar, OutOfPlace, OverN, GivenBefore}
-use Rattle.rules.specs.declared.Verdict.{Verdict}
-use Rattle.rules.specs.declared.Verdict.TheVariants.{Accepted, Refused}
 use Rattle.rules.proofs.Bools.{either, or_right}
 use Rattle.rules.proofs.Judging.{judge_nil, judge_refused, judge_passed}
 use Rattle.lent_bytes.specs.Words.{length_until, pieces_behind, EndsAt}
@@ -66,7 +64,7 @@ reached_fits p w r at h e f = record { fits = omega (arith, reached_is p r (sym 
 -- ---- one piece
 
 abbrev scan_at : ℕ → Bool → Scan
-scan_at at closed = record { verdict = Accepted; at = at; closed = closed; named = [] }
+scan_at at closed = record { verdict = Ok tt; at = at; closed = closed; named = [] }
 
 word_scan : (highest : ℕ) (row : List ℕ) (at : ℕ) (closed : Bool) (p : List ℕ) → (length p ≡ 0 → ⊥)
     → piece_scan highest row at closed p ≡ scan_word highest row (scan_at at closed) p
@@ -81,12 +79,12 @@ try_empty highest row at closed [] h = refl
 try_empty highest row at closed (b ∷ p) h = absurd (omega arith)
 
 module _ (highest : ℕ) (row : List ℕ) (at : ℕ) (closed : Bool) (p : List ℕ) (h : length p ≡ 0 → ⊥) where
-  try_refused : (why : Refusal) → judge (word_rules highest row (scan_at at closed) p) ≡ Refused why
+  try_refused : (why : Refusal) → judge (word_rules highest row (scan_at at closed) p) ≡ Err why
       → ◌≡◌ {A = PieceTrial} (piece_leaves (Err why) row) (try_piece highest row at closed p)
   unfolding try_piece scan_word
   try_refused why e = rw (word_scan highest row at closed p h, e)
 
-  try_passed : judge (word_rules highest row (scan_at at closed) p) ≡ Accepted
+  try_passed : judge (word_rules highest row (scan_at at closed) p) ≡ Ok tt
       → ◌≡◌ {A = PieceTrial} (piece_leaves (Ok (closed || eqb (variable_of p) 0)) (written true row p)) (try_piece highest row at closed p)
   unfolding try_piece scan_word
   try_passed e = rw (word_scan highest row at closed p h, e)
@@ -96,17 +94,17 @@ module _ (highest : ℕ) (row : List ℕ) (scan : Scan) (p : List ℕ) where
   abbrev verdict : Verdict
   verdict = judge (word_rules highest row scan p)
 
-  refuses_11 : is_number p ≡ false → verdict ≡ Refused (Grammar (scan.at + reach p))
+  refuses_11 : is_number p ≡ false → verdict ≡ Err (Grammar (scan.at + reach p))
   unfolding word_rules
   refuses_11 a = judge_refused (demand (is_number p) (Grammar (scan.at + reach p))) _ a
 
-  refuses_12 : is_number p ≡ true → scan.closed ≡ true → verdict ≡ Refused (OutOfPlace scan.at)
+  refuses_12 : is_number p ≡ true → scan.closed ≡ true → verdict ≡ Err (OutOfPlace scan.at)
   unfolding word_rules
   refuses_12 a b =
       judge_passed (demand (is_number p) (Grammar (scan.at + reach p))) _ a
       ∙ judge_refused (demand (not scan.closed) (OutOfPlace scan.at)) _ (ap not b)
 
-  refuses_13 : is_number p ≡ true → scan.closed ≡ false → highest < variable_of p → verdict ≡ Refused (OverN scan.at)
+  refuses_13 : is_number p ≡ true → scan.closed ≡ false → highest < variable_of p → verdict ≡ Err (OverN scan.at)
   unfolding word_rules
   refuses_13 a b c =
       judge_passed (demand (is_number p) (Grammar (scan.at + reach p))) _ a
@@ -126,12 +124,12 @@ module _ (highest : ℕ) (row : List ℕ) (scan : Scan) (p : List ℕ) where
 
   refuses_14 : is_number p ≡ true → scan.closed ≡ false → variable_of p ≤ highest
       → eqb (variable_of p) 0 || not (bit_of_variable row (variable_of p) || any (names (variable_of p)) scan.named) ≡ false
-      → verdict ≡ Refused (GivenBefore scan.at)
+      → verdict ≡ Err (GivenBefore scan.at)
   refuses_14 a b c d = last_rule_lem false a b c d ∙ judge_refused (demand false (GivenBefore scan.at)) [] refl
 
   passes : is_number p ≡ true → scan.closed ≡ false → variable_of p ≤ highest
       → eqb (variable_of p) 0 || not (bit_of_variable row (variable_of p) || any (names (variable_of p)) scan.named) ≡ true
-      → verdict ≡ Accepted
+      → verdict ≡ Ok tt
   passes a b c d = last_rule_lem true a b c d ∙ judge_passed (demand true (GivenBefore scan.at)) [] refl ∙ judge_nil
 
 -- a word writes the bit of the variable that it names
@@ -237,13 +235,13 @@ unfolding pieces_behind
 no_pieces line gap h = rw (drop_of_length-le line h)
 
 -- what a piece left, and its verdict
-left_taken : (judged : Verdict) (k c : Bool) (m r s : List ℕ) → piece_leaves (Ok c) s ≡ piece_trial judged k m r → (judged ≡ Accepted) × (c ≡ k) × (s ≡ m)
-left_taken Accepted k c m r s e = (refl, (let f : ◌≡◌ {A = Result Bool Refusal} (Ok c) (Ok k) = ap (λ t. t.answer) e in cc), ap (λ t. t.row) e)
-left_taken (Refused why) k c m r s e = let f : ◌≡◌ {A = Result Bool Refusal} (Ok c) (Err why) = ap (λ t. t.answer) e in (cc, cc, cc)
+left_taken : (judged : Verdict) (k c : Bool) (m r s : List ℕ) → piece_leaves (Ok c) s ≡ piece_trial judged k m r → (judged ≡ Ok tt) × (c ≡ k) × (s ≡ m)
+left_taken (Ok _) k c m r s e = (refl, (let f : ◌≡◌ {A = Result Bool Refusal} (Ok c) (Ok k) = ap (λ t. t.answer) e in cc), ap (λ t. t.row) e)
+left_taken (Err why) k c m r s e = let f : ◌≡◌ {A = Result Bool Refusal} (Ok c) (Err why) = ap (λ t. t.answer) e in (cc, cc, cc)
 
-left_refused : (judged : Verdict) (k : Bool) (why : Refusal) (m r s : List ℕ) → piece_leaves (Err why) s ≡ piece_trial judged k m r → (judged ≡ Refused why) × (s ≡ r)
-left_refused Accepted k why m r s e = let f : ◌≡◌ {A = Result Bool Refusal} (Err why) (Ok k) = ap (λ t. t.answer) e in (cc, cc)
-left_refused (Refused y) k why m r s e = ((let f : ◌≡◌ {A = Result Bool Refusal} (Err why) (Err y) = ap (λ t. t.answer) e in cc), ap (λ t. t.row) e)
+left_refused : (judged : Verdict) (k : Bool) (why : Refusal) (m r s : List ℕ) → piece_leaves (Err why) s ≡ piece_trial judged k m r → (judged ≡ Err why) × (s ≡ r)
+left_refused (Ok _) k why m r s e = let f : ◌≡◌ {A = Result Bool Refusal} (Err why) (Ok k) = ap (λ t. t.answer) e in (cc, cc)
+left_refused (Err y) k why m r s e = ((let f : ◌≡◌ {A = Result Bool Refusal} (Err why) (Err y) = ap (λ t. t.answer) e in cc), ap (λ t. t.row) e)
 
 module _ (highest : ℕ) (row : List ℕ) (gap : ℕ) (closed : Bool) (p : List ℕ) (ps : List (List ℕ)) where
   trial_taken : (c : Bool) (s : List ℕ) → piece_leaves (Ok c) s ≡ try_piece highest row (suc gap) closed p

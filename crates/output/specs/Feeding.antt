@@ -1,14 +1,14 @@
 -- A whole output, fed in pieces: lines are read as they end, and what there is of the next one is held in lent bytes, one more than a line may
 -- have at most.
 -- Assumes nothing.
-use Rattle.std.specs.Prelude.{ℕ, ◌+◌, ◌-◌, min, ◌≡◌, Bool, cond, ◌&&◌, eqb, leb, ltb, length, take, set}
+use Rattle.std.specs.Prelude.{ℕ, ◌+◌, ◌-◌, min, ◌≡◌, Bool, cond, ◌&&◌, eqb, leb, ltb, length, take, set, Ok, Err}
 use mathlib.Core.List.{List, foldl}
 use Rattle.rules.specs.Limits.{max_line}
 use Rattle.rules.specs.Text.{lf}
 use Rattle.rules.specs.Rows.{Rows}
 use Rattle.rules.specs.Lines.{Progress, read_line}
 use Rattle.rules.specs.declared.Refusal.TheVariants.{Room}
-use Rattle.rules.specs.declared.LineAnswer.{LineAnswer}
+use Rattle.rules.specs.Answers.{LineAnswer}
 use Rattle.lent_bytes.specs.Words.{length_until}
 use Rattle.digits.specs.Over.{over}
 use Rattle.output.specs.Line.{leaves, both_fit}
@@ -29,12 +29,12 @@ feed_leaves feed given is_true line = record { progress = leaves feed.answer giv
 
 -- an LF ends the line; another byte is held, if there is room for it; a refused line ends the reading
 abbrev pub fed_byte : LineAnswer → Rows → (held : ℕ) (line : List ℕ) → ℕ → Fed
-fed_byte (LineAnswer.Next reading) rows held line b =
+fed_byte (Ok reading) rows held line b =
     cond (eqb b lf) (record { progress = read_line reading rows (take held line); held = 0; line = line })
-    (cond (ltb held line_room) (record { progress = record { answer = LineAnswer.Next reading; rows = rows }; held = held + 1; line = set line held b })
-    (record { progress = record { answer = LineAnswer.Next reading; rows = rows }; held = held; line = line }))
-fed_byte (LineAnswer.Refused why) rows held line b =
-    record { progress = record { answer = LineAnswer.Refused why; rows = rows }; held = held; line = line }
+    (cond (ltb held line_room) (record { progress = record { answer = Ok reading; rows = rows }; held = held + 1; line = set line held b })
+    (record { progress = record { answer = Ok reading; rows = rows }; held = held; line = line }))
+fed_byte (Err why) rows held line b =
+    record { progress = record { answer = Err why; rows = rows }; held = held; line = line }
 
 unfoldable pub feed_byte : Fed → ℕ → Fed
 feed_byte fed b = fed_byte fed.progress.answer fed.progress.rows fed.held fed.line b
@@ -58,8 +58,8 @@ feed_part fed part ends = cond ends (feed_byte (feed_all fed part) lf) (feed_all
 
 -- so many words and bytes are room for a line and for the rows of a reading; a refused reading needs no rows
 unfoldable pub room_for : LineAnswer → (given is_true line : ℕ) → Bool
-room_for (LineAnswer.Next reading) given is_true line = leb line_room line && both_fit reading.highest given is_true
-room_for (LineAnswer.Refused why) given is_true line = leb line_room line
+room_for (Ok reading) given is_true line = leb line_room line && both_fit reading.highest given is_true
+room_for (Err why) given is_true line = leb line_room line
 
 unfoldable pub has_room : Fed → Bool
 has_room fed = room_for fed.progress.answer (length fed.progress.rows.given) (length fed.progress.rows.is_true) (length fed.line)
@@ -68,13 +68,13 @@ has_room fed = room_for fed.progress.answer (length fed.progress.rows.given) (le
 unfoldable pub feed_call : Fed → List ℕ → Fed
 feed_call fed bytes =
     cond (has_room fed) (feed_all (record { progress = fed.progress; held = min fed.held line_room; line = fed.line }) bytes)
-    (record { progress = record { answer = LineAnswer.Refused Room; rows = fed.progress.rows }; held = fed.held; line = fed.line })
+    (record { progress = record { answer = Err Room; rows = fed.progress.rows }; held = fed.held; line = fed.line })
 
 -- what is held at the end is a line
 abbrev pub finished : LineAnswer → Rows → (held : ℕ) (line : List ℕ) → Progress
-finished (LineAnswer.Next reading) rows held line =
-    cond (eqb held 0) (record { answer = LineAnswer.Next reading; rows = rows }) (read_line reading rows (take held line))
-finished (LineAnswer.Refused why) rows held line = record { answer = LineAnswer.Refused why; rows = rows }
+finished (Ok reading) rows held line =
+    cond (eqb held 0) (record { answer = Ok reading; rows = rows }) (read_line reading rows (take held line))
+finished (Err why) rows held line = record { answer = Err why; rows = rows }
 
 unfoldable pub finish : Fed → Progress
 finish fed = finished fed.progress.answer fed.progress.rows fed.held fed.line
@@ -82,4 +82,4 @@ finish fed = finished fed.progress.answer fed.progress.rows fed.held fed.line
 unfoldable pub finish_call : Fed → Progress
 finish_call fed =
     cond (has_room fed) (finish (record { progress = fed.progress; held = min fed.held line_room; line = fed.line }))
-    (record { answer = LineAnswer.Refused Room; rows = fed.progress.rows })
+    (record { answer = Err Room; rows = fed.progress.rows })

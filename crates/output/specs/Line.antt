@@ -1,11 +1,11 @@
 -- What a call leaves, its answer and the two lent rows; how a reading starts, and what a line of each kind comes to.
 -- Assumes nothing.
-use Rattle.std.specs.Prelude.{Bool, cond, ◌&&◌, List, [], ℕ, leb, replicate}
+use Rattle.std.specs.Prelude.{Bool, cond, ◌&&◌, List, [], ℕ, leb, replicate, Ok, Err}
 use Rattle.rules.specs.Rows.{Rows, words_for, over_row}
 use Rattle.rules.specs.Lines.{Kind, kind_verdict, phase_after, named, Progress, rows_fit, progress}
 use Rattle.rules.specs.declared.Refusal.TheVariants.{Room}
 use Rattle.rules.specs.declared.Phase.TheVariants.{NoStatus}
-use Rattle.rules.specs.declared.LineAnswer.{LineAnswer}
+use Rattle.rules.specs.Answers.{LineAnswer}
 use Rattle.rules.specs.declared.Reading.{Reading}
 pub use Rattle.rows.specs.Lent.{lent}
 
@@ -20,9 +20,9 @@ both_fit highest given is_true = leb (words_for highest) given && leb (words_for
 unfoldable pub started : (highest : ℕ) → Rows → Progress
 started highest rows =
     cond (rows_fit highest rows)
-    (leaves (LineAnswer.Next (record { highest = highest; phase = NoStatus })) (over_row (replicate (words_for highest) 0) rows.given)
+    (leaves (Ok (record { highest = highest; phase = NoStatus })) (over_row (replicate (words_for highest) 0) rows.given)
     (over_row (replicate (words_for highest) 0) rows.is_true))
-    (record { answer = LineAnswer.Refused Room; rows = rows })
+    (record { answer = Err Room; rows = rows })
 
 -- what a line of a kind comes to, where the rows are long enough and the line is not too long
 unfoldable pub by_kind : Kind → Reading → Rows → List ℕ → Progress

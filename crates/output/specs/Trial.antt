@@ -6,8 +6,7 @@ use Rattle.rules.specs.Text.{space}
 use Rattle.rules.specs.Rows.{with_variable}
 use Rattle.rules.specs.Lines.{is_number, is_negative, variable_of, Scan, scan_piece}
 use Rattle.rules.specs.declared.Refusal.{Refusal}
-use Rattle.rules.specs.declared.Verdict.{Verdict}
-use Rattle.rules.specs.declared.Verdict.TheVariants.{Accepted, Refused}
+use Rattle.rules.specs.Answers.{Verdict}
 use Rattle.lent_bytes.specs.Words.{pieces_behind}
 use Rattle.output.specs.declared.numbers.Stopped.{Stopped}
 
@@ -19,7 +18,7 @@ written on row w = cond (is_number w && not (eqb (variable_of w) 0)) (with_varia
 
 -- a piece judged where the row marks all that was named before it
 unfoldable pub piece_scan : (highest : ℕ) (row : List ℕ) (at : ℕ) (closed : Bool) → List ℕ → Scan
-piece_scan highest row at closed p = scan_piece highest row (record { verdict = Accepted; at = at; closed = closed; named = [] }) p
+piece_scan highest row at closed p = scan_piece highest row (record { verdict = Ok tt; at = at; closed = closed; named = [] }) p
 
 pub record PieceTrial : Type 0 where
   pub answer : Result Bool Refusal
@@ -30,8 +29,8 @@ piece_leaves answer row = record { answer = answer; row = row }
 
 -- what passes is marked
 abbrev pub piece_trial : Verdict → (closed : Bool) (marked row : List ℕ) → PieceTrial
-piece_trial Accepted closed marked row = piece_leaves (Ok closed) marked
-piece_trial (Refused why) closed marked row = piece_leaves (Err why) row
+piece_trial (Ok _) closed marked row = piece_leaves (Ok closed) marked
+piece_trial (Err why) closed marked row = piece_leaves (Err why) row
 
 unfoldable pub try_piece : (highest : ℕ) (row : List ℕ) (at : ℕ) (closed : Bool) → List ℕ → PieceTrial
 try_piece highest row at closed p =
@@ -52,8 +51,8 @@ stop_of (Ok closed) = 0
 stop_of (Err stopped) = stopped.gap
 
 abbrev pub onward : Verdict → (gap : ℕ) (row : List ℕ) → Trial → Trial
-onward Accepted gap row next = next
-onward (Refused why) gap row next = trial_leaves (Err (record { why = why; gap = gap })) row
+onward (Ok _) gap row next = next
+onward (Err why) gap row next = trial_leaves (Err (record { why = why; gap = gap })) row
 
 unfoldable pub trial : (highest : ℕ) (row : List ℕ) (gap : ℕ) (closed : Bool) → List (List ℕ) → Trial
 trial highest row gap closed [] = trial_leaves (Ok closed) row

@@ -1,10 +1,9 @@
 // A whole output in pieces: lines are read as they end, and what there is of the next one is held in lent bytes.
-ghost use Rattle.std.specs.Prelude.{◌≡◌, ◌≤◌, min, length};
-ghost use Rattle.rules.specs.declared.LineAnswer.TheVariants.{Next};
+ghost use Rattle.std.specs.Prelude.{◌≡◌, ◌≤◌, min, length, Ok};
 ghost use Rattle.output.specs.Line.{leaves};
 ghost use Rattle.output.specs.Feeding.{line_room, room_for, feed_leaves, held_then, line_then, WithoutLF, feed_part, feed_call, finish_call};
 
-use rules::{LineAnswer, Reading, Refusal};
+use rules::{Reading, Refusal};
 
 // The room that a line needs: one byte more than it may have.
 pub const LINE_ROOM: usize = 4097;
@@ -12,29 +11,29 @@ pub const LINE_ROOM: usize = 4097;
 // The answer so far, and how many bytes of the line that has begun are held.
 #[derive(Clone, Copy)]
 pub struct Feed {
-    pub answer: LineAnswer,
+    pub answer: Result<Reading, Refusal>,
     pub held: usize,
 }
 
 // No byte has been fed.
 pub fn begin(reading: Reading) -> Feed
-    ensures { (result.answer ≡ Next reading) × (result.held ≡ 0) }
+    ensures { (result.answer ≡ Ok reading) × (result.held ≡ 0) }
 {
     Feed {
-        answer: LineAnswer::Next(reading),
+        answer: Ok(reading),
         held: 0,
     }
 }
 
 // Whether so many words and bytes are room for the rows of a reading and for a line.
 #[tactic(auto, unfolding(crate::specs::Feeding::room_for))]
-fn has_room(answer: LineAnswer, given: usize, truth: usize, line: usize) -> bool
+fn has_room(answer: Result<Reading, Refusal>, given: usize, truth: usize, line: usize) -> bool
     ensures { result ≡ room_for answer given truth line }
 {
     if line < LINE_ROOM {
         return false;
     }
-    let LineAnswer::Next(reading) = answer else {
+    let Ok(reading) = answer else {
         return true;
     };
     crate::rows_fit(reading.highest, given, truth)
@@ -64,7 +63,7 @@ fn feed_part(
     ensures held_fits { result.held ≤ line_room }
 {
     let answer = state.answer;
-    let LineAnswer::Next(reading) = answer else {
+    let Ok(reading) = answer else {
         return state;
     };
     let held = hold(line, state.held, part);
@@ -91,7 +90,7 @@ pub fn take_bytes(
     let answer = state.answer;
     if !has_room(answer, given.len(), truth.len(), line.len()) {
         return Feed {
-            answer: LineAnswer::Refused(Refusal::Room),
+            answer: Err(Refusal::Room),
             held: state.held,
         };
     }
@@ -109,15 +108,20 @@ pub fn take_bytes(
 }
 
 // The end of an output: what is held of a last line without LF is a line too.
-pub fn finish(state: Feed, given: &mut [u64], truth: &mut [u64], line: &[u8]) -> LineAnswer
+pub fn finish(
+    state: Feed,
+    given: &mut [u64],
+    truth: &mut [u64],
+    line: &[u8],
+) -> Result<Reading, Refusal>
     ensures { leaves result given.new truth.new ≡ finish_call (feed_leaves state given.old truth.old line.now) }
 {
     let answer = state.answer;
     if !has_room(answer, given.len(), truth.len(), line.len()) {
-        return LineAnswer::Refused(Refusal::Room);
+        return Err(Refusal::Room);
     }
     let held = state.held.min(LINE_ROOM);
-    let LineAnswer::Next(reading) = answer else {
+    let Ok(reading) = answer else {
         return answer;
     };
     if held == 0 {

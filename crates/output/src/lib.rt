@@ -10,7 +10,7 @@ ghost use Rattle.std.specs.Prelude.{◌≡◌};
 ghost use Rattle.rules.specs.Lines.{read_line};
 ghost use Rattle.output.specs.Line.{lent, leaves, both_fit, started};
 
-use rules::{LineAnswer, Phase, Reading, Refusal};
+use rules::{Phase, Reading, Refusal};
 
 const MAX_LINE: usize = 4096;
 
@@ -24,30 +24,35 @@ fn rows_fit(highest: usize, given: usize, truth: usize) -> bool
 }
 
 // A reading of up to `highest` variables starts: the words needed are set to 0 in both rows.
-pub fn start(highest: usize, given: &mut [u64], truth: &mut [u64]) -> LineAnswer
+pub fn start(highest: usize, given: &mut [u64], truth: &mut [u64]) -> Result<Reading, Refusal>
     ensures { leaves result given.new truth.new ≡ started highest (lent given.old truth.old) }
 {
     if !rows_fit(highest, given.len(), truth.len()) {
-        return LineAnswer::Refused(Refusal::Room);
+        return Err(Refusal::Room);
     }
     let words = rows::words_for(highest);
     rows::clear(given, words);
     rows::clear(truth, words);
-    LineAnswer::Next(Reading {
+    Ok(Reading {
         highest,
         phase: Phase::NoStatus,
     })
 }
 
 // One line without its LF: the next reading state, or a refusal, which leaves both rows as found.
-pub fn read_line(reading: Reading, given: &mut [u64], truth: &mut [u64], line: &[u8]) -> LineAnswer
+pub fn read_line(
+    reading: Reading,
+    given: &mut [u64],
+    truth: &mut [u64],
+    line: &[u8],
+) -> Result<Reading, Refusal>
     ensures { leaves result given.new truth.new ≡ read_line reading (lent given.old truth.old) line.now }
 {
     if !rows_fit(reading.highest, given.len(), truth.len()) {
-        return LineAnswer::Refused(Refusal::Room);
+        return Err(Refusal::Room);
     }
     if MAX_LINE < line.len() {
-        return LineAnswer::Refused(Refusal::Grammar(MAX_LINE));
+        return Err(Refusal::Grammar(MAX_LINE));
     }
     let first = lent_bytes::byte_at(line, 0);
     if first == b'c' {
@@ -59,5 +64,5 @@ pub fn read_line(reading: Reading, given: &mut [u64], truth: &mut [u64], line: &
     if first == b'v' {
         return numbers::numbers_line(reading, given, truth, line);
     }
-    LineAnswer::Refused(Refusal::Grammar(0))
+    Err(Refusal::Grammar(0))
 }

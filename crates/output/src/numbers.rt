@@ -9,7 +9,7 @@ ghost use Rattle.output.specs.Trial.{written, piece_leaves, try_piece, trial_lea
 
 use crate::words;
 use crate::words::Number;
-use rules::{LineAnswer, Phase, Reading, Refusal};
+use rules::{Phase, Reading, Refusal};
 
 // Why a piece is refused, and at which place the gap before it stands.
 #[derive(Clone, Copy)]
@@ -129,27 +129,27 @@ pub fn numbers_line(
     given: &mut [u64],
     truth: &mut [u64],
     line: &[u8],
-) -> LineAnswer
+) -> Result<Reading, Refusal>
     requires { (words_for reading.highest ≤ length given.old) × (length line.now ≤ max_line) × (kind_of line.now ≡ numbers) }
     ensures { leaves result given.new truth.new ≡ by_kind numbers reading (lent given.old truth.old) line.now }
 {
     let highest = reading.highest;
     let phase = reading.phase;
     if !awaits_numbers(phase) {
-        return LineAnswer::Refused(Refusal::OutOfPlace(0));
+        return Err(Refusal::OutOfPlace(0));
     }
     if !words::stands_alone(line) {
-        return LineAnswer::Refused(Refusal::Grammar(1));
+        return Err(Refusal::Grammar(1));
     }
     match try_numbers(highest, given, line) {
         Err(stopped) => {
             write_numbers(given, line, stopped.gap, false);
-            LineAnswer::Refused(stopped.why)
+            Err(stopped.why)
         }
         Ok(closed) => {
             write_numbers(truth, line, line.len(), true);
             let after = phase_of(closed);
-            LineAnswer::Next(Reading {
+            Ok(Reading {
                 highest,
                 phase: after,
             })

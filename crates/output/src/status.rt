@@ -5,16 +5,16 @@ ghost use Rattle.output.specs.Line.{answer_to};
 
 use crate::words;
 use lent_bytes::texts;
-use rules::{LineAnswer, Phase, Reading, Refusal};
+use rules::{Phase, Reading, Refusal};
 
 // A comment is skipped.
-pub fn comment_line(reading: Reading, line: &[u8]) -> LineAnswer
+pub fn comment_line(reading: Reading, line: &[u8]) -> Result<Reading, Refusal>
     ensures { result ≡ answer_to comment reading line.now }
 {
     if words::stands_alone(line) {
-        return LineAnswer::Next(reading);
+        return Ok(reading);
     }
-    LineAnswer::Refused(Refusal::Grammar(1))
+    Err(Refusal::Grammar(1))
 }
 
 fn awaits_status(phase: Phase) -> bool
@@ -24,31 +24,31 @@ fn awaits_status(phase: Phase) -> bool
 }
 
 // A status line says how the model goes on.
-pub fn status_line(reading: Reading, line: &[u8]) -> LineAnswer
+pub fn status_line(reading: Reading, line: &[u8]) -> Result<Reading, Refusal>
     ensures { result ≡ answer_to status reading line.now }
 {
     let highest = reading.highest;
     let phase = reading.phase;
     if !awaits_status(phase) {
-        return LineAnswer::Refused(Refusal::OutOfPlace(0));
+        return Err(Refusal::OutOfPlace(0));
     }
     let satisfiable = b"s SATISFIABLE";
     let unsatisfiable = b"s UNSATISFIABLE";
     let unknown = b"s UNKNOWN";
     if texts::is_same(line, satisfiable) {
-        return LineAnswer::Next(Reading {
+        return Ok(Reading {
             highest,
             phase: Phase::ModelOpen,
         });
     }
     if texts::is_same(line, unsatisfiable) {
-        return LineAnswer::Next(Reading {
+        return Ok(Reading {
             highest,
             phase: Phase::SaidUnsatisfiable,
         });
     }
     if texts::is_same(line, unknown) {
-        return LineAnswer::Next(Reading {
+        return Ok(Reading {
             highest,
             phase: Phase::SaidUnknown,
         });
@@ -56,5 +56,5 @@ pub fn status_line(reading: Reading, line: &[u8]) -> LineAnswer
     let reached = texts::shared(line, satisfiable)
         .max(texts::shared(line, unsatisfiable))
         .max(texts::shared(line, unknown));
-    LineAnswer::Refused(Refusal::Grammar(reached))
+    Err(Refusal::Grammar(reached))
 }

@@ -12,7 +12,7 @@ ghost use Rattle.std.specs.Prelude.{◌<◌, ◌≤◌, length, IfOk};
 use lent_bytes::words::line_end;
 use output::feeding;
 use output::feeding::LINE_ROOM;
-use rules::{LineAnswer, Phase, Reading};
+use rules::{Phase, Reading, Refusal};
 use showing::{name_of, print_refusal};
 use std::io::Result;
 
@@ -29,13 +29,18 @@ fn first_word(row: &[u64]) -> u64 {
     row.first().copied().unwrap_or(0)
 }
 
-fn print_answer(rt: &impl Print, answer: LineAnswer, given: &[u64], truth: &[u64]) -> Result<()> {
+fn print_answer(
+    rt: &impl Print,
+    answer: std::result::Result<Reading, Refusal>,
+    given: &[u64],
+    truth: &[u64],
+) -> Result<()> {
     match answer {
-        LineAnswer::Next(reading) => {
+        Ok(reading) => {
             let phase = reading.phase;
             print!(rt; "next {}", name_of(phase))?;
         }
-        LineAnswer::Refused(why) => {
+        Err(why) => {
             print!(rt; "refused ")?;
             print_refusal(rt, why)?;
         }
@@ -167,7 +172,7 @@ fn run_line(
 ) -> Result<Reading> {
     let answer = output::read_line(reading, given, truth, line);
     print_answer(rt, answer, given, truth)?;
-    let LineAnswer::Next(next) = answer else {
+    let Ok(next) = answer else {
         return Ok(reading);
     };
     Ok(next)

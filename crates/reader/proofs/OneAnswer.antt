@@ -4,7 +4,7 @@ use mathlib.Core.Path.{◌≡◌, sym, ◌∙◌}
 use mathlib.Core.List.{List}
 use Prim.Native.Nat.{ℕ}
 use denote.Ref.{Bor}
-use Rattle.rules.specs.declared.Verdict.{Verdict}
+use Rattle.rules.specs.Answers.{Verdict}
 use Rattle.reader.specs.Stretches.{Stretch}
 use Rattle.reader.proofs.contents.contents_verdict.Reads as contents-verdict
 use Rattle.reader.proofs.contents.byte_at.Reads as byte_at

@@ -17,12 +17,11 @@ use Rattle.rules.specs.Answers.{judge}
 use Rattle.rules.specs.Task.{Task, Action, action, pair_at_fault, list_in_order, action_in_order, action_at_fault, task_rules}
 use Rattle.rules.specs.File.{byte, pairs_at, action_bytes, action_in, rests, is_whole}
 use Rattle.rules.specs.declared.Refusal.TheVariants.{ActionAtFault}
-use Rattle.rules.specs.declared.Verdict.TheVariants.{Accepted, Refused}
 use Rattle.rules.proofs.Bools.{and_left, not_true, not_false}
 use Rattle.rules.proofs.Judging.{judge_refused, judge_passed, judge_nil}
 use Rattle.rules.proofs.Loops.{none_more, found_at, first_beyond}
 use Rattle.rules.proofs.Rests.{Reached, reached_all, reached_below, reached_rest, reached_next, action_read_lem}
-use Rattle.std.specs.Prelude.{Option, Some, None}
+use Rattle.std.specs.Prelude.{Option, Some, None, Ok, Err}
 use Rattle.reader.specs.Bodies.{task_in, sized, bodies_rules, actions_rule, action_read}
 
 -- ---- one action, with p preconditions and e effects; b and c are what was found of the two lists
@@ -121,24 +120,24 @@ module _ (sizes s : List ℕ) where
   count = length (map action_in (rests s))
 
   refused_with : (k : ℕ) → (eqb (first count at_fault) count && leb count max_actions) ≡ false → min max_actions (first count at_fault) ≡ k
-      → Refused (ActionAtFault k) ≡ judge (actions_rule sizes s)
+      → Err (ActionAtFault k) ≡ judge (actions_rule sizes s)
   unfolding actions_rule bodies_rules task_rules
-  refused_with k f e = sym (judge_refused _ [] f ∙ ap (λ k. Refused (ActionAtFault k)) e)
+  refused_with k f e = sym (judge_refused _ [] f ∙ ap (λ k. Err (ActionAtFault k)) e)
 
   module _ (at a : ℕ) (reached : Reached s at a) (fine : first a at_fault ≡ a) where
-    pub actions_over : a ≡ max_actions → at < length s → Refused (ActionAtFault max_actions) ≡ judge (actions_rule sizes s)
+    pub actions_over : a ≡ max_actions → at < length s → Err (ActionAtFault max_actions) ≡ judge (actions_rule sizes s)
     actions_over e l =
         let more : a < count = omega (arith, reached_below s at a reached l, length-map (rests s) action_in) in
         refused_with max_actions (false_right (eqb (first count at_fault) count) _ (lt-leb count max_actions (omega arith))) (omega (arith, first_beyond at_fault count a fine (omega arith)))
 
     pub actions_wrong : (r : Option ℕ) → a ≤ max_actions → (a ≡ max_actions → ⊥) → at < length s
-        → r ≡ action_read sizes (take (length s - at) (drop at s)) → r ≡ None → Refused (ActionAtFault a) ≡ judge (actions_rule sizes s)
+        → r ≡ action_read sizes (take (length s - at) (drop at s)) → r ≡ None → Err (ActionAtFault a) ≡ judge (actions_rule sizes s)
     actions_wrong r few not_last l er e =
         let more : a < count = omega (arith, reached_below s at a reached l, length-map (rests s) action_in) in
         let here : a ≡ first count at_fault = found_at at_fault count a (at_fault a) fine more refl (action_wrong at a reached l r er e) in
         refused_with a (rw (ne_eqb (first count at_fault) count (λ h. omega arith))) (omega arith)
 
-    pub actions_accepted : a ≤ max_actions → length s ≤ at → Accepted ≡ judge (actions_rule sizes s)
+    pub actions_accepted : a ≤ max_actions → length s ≤ at → Ok tt ≡ judge (actions_rule sizes s)
     unfolding actions_rule bodies_rules task_rules
     actions_accepted few l =
         let all : count ≡ a = omega (arith, reached_all s at a reached l, length-map (rests s) action_in) in

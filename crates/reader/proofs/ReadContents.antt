@@ -1,5 +1,6 @@
 -- The ways out of the functions on the table of contents.
 -- Assumes nothing.
+use Rattle.std.specs.Prelude.{Ok, Err}
 use mathlib.Core.Path.{◌≡◌, refl, sym, ap, ◌∙◌}
 use mathlib.Core.Bool.{Bool, true, false, not}
 use mathlib.Core.List.{List, [], ◌∷◌}
@@ -12,12 +13,10 @@ use lib.ListN.{length, take, drop}
 use denote.Ref.{Bor}
 use Rattle.rules.specs.Counting.{first}
 use Rattle.rules.specs.Limits.{max_file, contents_rows, contents_bytes}
-use Rattle.rules.specs.Answers.{none_at_fault, judge}
+use Rattle.rules.specs.Answers.{none_at_fault, judge, Verdict}
 use Rattle.rules.specs.File.{due_start, body_start, body_length, body, row_at_fault, contents_rules, contents_verdict, body_asked}
 use Rattle.rules.specs.declared.Refusal.{Refusal}
 use Rattle.rules.specs.declared.Refusal.TheVariants.{FileLength, ContentsRow}
-use Rattle.rules.specs.declared.Verdict.{Verdict}
-use Rattle.rules.specs.declared.Verdict.TheVariants.{Accepted, Refused}
 use Rattle.rules.proofs.Judging.{judge_refused, judge_passed, judge_nil}
 use Rattle.rules.proofs.Contents.{accepted_contents, body_within}
 use Rattle.rules.proofs.Loops.{found_at, judge_found, judge_none}
@@ -45,11 +44,11 @@ module _ (file : List ℕ) (row a b : ℕ) (is-start : a ≡ body_start file row
 -- ---- the verdict
 
 module _ (file : List ℕ) where
-  pub file_short : length file < contents_bytes → Refused FileLength ≡ contents_verdict file
+  pub file_short : length file < contents_bytes → Err FileLength ≡ contents_verdict file
   unfolding contents_verdict contents_rules
   file_short h = sym (judge_refused _ _ (rw (lt-leb _ _ h)))
 
-  pub file_long : contents_bytes ≤ length file → max_file < length file → Refused FileLength ≡ contents_verdict file
+  pub file_long : contents_bytes ≤ length file → max_file < length file → Err FileLength ≡ contents_verdict file
   unfolding contents_verdict contents_rules
   file_long h l = sym (judge_refused _ _ (rw (le-leb _ _ h, lt-leb _ _ l)))
 
@@ -59,23 +58,23 @@ module _ (file : List ℕ) where
     length-passed = judge_passed _ _ (rw (le-leb _ _ h, le-leb _ _ l))
 
     pub row_refused : (row : ℕ) (b : Bool) → first row (row_at_fault file) ≡ row → row < contents_rows → b ≡ row_at_fault file row → b ≡ true
-        → Refused (ContentsRow row) ≡ contents_verdict file
+        → Err (ContentsRow row) ≡ contents_verdict file
     row_refused row b n i e t = sym (length-passed ∙ judge_found _ _ ContentsRow [] row i (found_at _ _ row b n i e t))
 
-    pub rows_accepted : (row : ℕ) → first row (row_at_fault file) ≡ row → row ≤ contents_rows → contents_rows ≤ row → Accepted ≡ contents_verdict file
+    pub rows_accepted : (row : ℕ) → first row (row_at_fault file) ≡ row → row ≤ contents_rows → contents_rows ≤ row → Ok tt ≡ contents_verdict file
     rows_accepted row n i g =
         let e : row ≡ contents_rows = omega arith in
         sym (length-passed ∙ judge_none _ _ ContentsRow [] (rw e at n) ∙ judge_nil)
 
 -- ---- bodies; a is where a row's body starts, b how long it is
 
-pub contents_fine : (file : List ℕ) (v : Verdict) → v ≡ contents_verdict file → v ≡ Accepted → contents_verdict file ≡ Accepted
+pub contents_fine : (file : List ℕ) (v : Verdict) → v ≡ contents_verdict file → v ≡ Ok tt → contents_verdict file ≡ Ok tt
 contents_fine file v e f = sym e ∙ f
 
-pub contents_there : (file : List ℕ) → contents_verdict file ≡ Accepted → contents_bytes ≤ length file
+pub contents_there : (file : List ℕ) → contents_verdict file ≡ Ok tt → contents_bytes ≤ length file
 contents_there file h = (accepted_contents file h).long_enough
 
-pub body_there : (file : List ℕ) (row a b : ℕ) → contents_verdict file ≡ Accepted → row < contents_rows
+pub body_there : (file : List ℕ) (row a b : ℕ) → contents_verdict file ≡ Ok tt → row < contents_rows
     → a ≡ body_start file row → b ≡ body_length file row → a + b ≤ length file
 body_there file row a b h l ea eb = rw (ea, eb) (body_within file (accepted_contents file h) row l)
 
@@ -89,12 +88,12 @@ abbrev pub IsAsked : (whole part : Bor (List ℕ)) → ℕ → Type 0
 IsAsked whole part b = Stretch whole part (start_asked whole.now b) (body_asked whole.now b)
 
 module _ (whole part : Bor (List ℕ)) (v : Verdict) (e : v ≡ contents_verdict whole.now) where
-  pub none_refused : (b : ℕ) (why : Refusal) → v ≡ Refused why → Stretch whole part 0 [] → IsAsked whole part b
+  pub none_refused : (b : ℕ) (why : Refusal) → v ≡ Err why → Stretch whole part 0 [] → IsAsked whole part b
   unfolding body_asked start_asked
-  none_refused b why f s = let g : contents_verdict whole.now ≡ Refused why = sym e ∙ f in rw g s
+  none_refused b why f s = let g : contents_verdict whole.now ≡ Err why = sym e ∙ f in rw g s
 
-  module _ (f : v ≡ Accepted) where
-    accepted : contents_verdict whole.now ≡ Accepted
+  module _ (f : v ≡ Ok tt) where
+    accepted : contents_verdict whole.now ≡ Ok tt
     accepted = contents_fine whole.now v e f
 
     pub none_zero : (b : ℕ) → b ≡ 0 → Stretch whole part 0 [] → IsAsked whole part b

@@ -1,5 +1,6 @@
 -- The ways out of the functions that judge four bodies and a whole file.
 -- Assumes nothing.
+use Rattle.std.specs.Prelude.{Ok, Err}
 use mathlib.Core.Path.{◌≡◌, refl, sym, ap, ◌∙◌}
 use mathlib.Core.Bool.{Bool, true, false, not, ◌&&◌}
 use mathlib.Core.List.{List, []}
@@ -11,13 +12,11 @@ use lib.ListN.{length, drop}
 use denote.Ref.{Bor}
 use Rattle.rules.specs.Counting.{first}
 use Rattle.rules.specs.Limits.{max_variables, max_values, pair_bytes}
-use Rattle.rules.specs.Answers.{judge, in_turn}
+use Rattle.rules.specs.Answers.{judge, in_turn, Verdict}
 use Rattle.rules.specs.Task.{Task, S, size_at_fault, start_at_fault, pair_at_fault, list_in_order, action_in_order, action_at_fault, task_rules}
 use Rattle.rules.specs.File.{pairs_at, contents_rules, contents_verdict, body, task_of, file_rules, file_verdict}
 use Rattle.rules.specs.declared.Refusal.{Refusal}
 use Rattle.rules.specs.declared.Refusal.TheVariants.{BodyLength, DomainSize, StartValue, GoalPair}
-use Rattle.rules.specs.declared.Verdict.{Verdict}
-use Rattle.rules.specs.declared.Verdict.TheVariants.{Accepted, Refused}
 use Rattle.rules.proofs.Bools.{and_left, and_right, not_true, not_false}
 use Rattle.rules.proofs.Judging.{judge_refused, judge_passed, judge_append}
 use Rattle.rules.proofs.Counting.{first_le}
@@ -73,7 +72,7 @@ module _ (sizes start goal actions : List ℕ) where
   -- ---- b: the lengths fit
 
   module _ (b : Bool) (eb : b ≡ fit (length sizes) (length start) (length goal)) where
-    pub lengths_wrong : not b ≡ true → Refused BodyLength ≡ bodies
+    pub lengths_wrong : not b ≡ true → Err BodyLength ≡ bodies
     unfolding bodies_rules task_rules
     lengths_wrong f = sym (judge_refused _ _ (rw (length-pairs_at goal 0 goals) (sym eb ∙ not_true b f)))
 
@@ -87,12 +86,12 @@ module _ (sizes start goal actions : List ℕ) where
       is_x : first (length sizes) (size_at_fault whole) ≡ x
       is_x = sym (ex ∙ sizes_same)
 
-      pub size_wrong : x < length sizes → Refused (DomainSize x) ≡ bodies
+      pub size_wrong : x < length sizes → Err (DomainSize x) ≡ bodies
       unfolding bodies_rules task_rules
       size_wrong h =
           sym (from_sizes
           ∙ judge_refused _ _ (rw (ne_eqb (first (length sizes) (size_at_fault whole)) (length sizes) (λ k. omega (arith, is_x))))
-          ∙ ap (λ k. Refused (DomainSize k)) is_x)
+          ∙ ap (λ k. Err (DomainSize k)) is_x)
 
       -- ---- sum: S
 
@@ -100,12 +99,12 @@ module _ (sizes start goal actions : List ℕ) where
         all_sizes : first (length sizes) (size_at_fault whole) ≡ length sizes
         all_sizes = omega (arith, is_x, first_le (length sizes) (size_at_fault whole))
 
-        pub sum_wrong : max_values < sum → Refused (DomainSize (length sizes)) ≡ bodies
+        pub sum_wrong : max_values < sum → Err (DomainSize (length sizes)) ≡ bodies
         unfolding bodies_rules task_rules
         sum_wrong h =
             sym (from_sizes
             ∙ judge_refused _ _ (rw (eq-eqb _ _ all_sizes, ← es, lt-leb sum max_values h))
-            ∙ ap (λ k. Refused (DomainSize k)) all_sizes)
+            ∙ ap (λ k. Err (DomainSize k)) all_sizes)
 
         -- ---- y: the first start value at fault
 
@@ -114,7 +113,7 @@ module _ (sizes start goal actions : List ℕ) where
           unfolding bodies_rules task_rules
           from_starts = from_sizes ∙ judge_passed _ _ (rw (eq-eqb _ _ all_sizes, ← es, le-leb sum max_values hs))
 
-          pub start_wrong : y < length sizes → Refused (StartValue y) ≡ bodies
+          pub start_wrong : y < length sizes → Err (StartValue y) ≡ bodies
           unfolding bodies_rules task_rules
           start_wrong h = sym (from_starts ∙ judge_found (length sizes) (start_at_fault whole) StartValue _ y h (ey ∙ starts_same))
 
@@ -127,7 +126,7 @@ module _ (sizes start goal actions : List ℕ) where
                 from_starts
                 ∙ judge_none (length sizes) (start_at_fault whole) StartValue _ (omega (arith, ey, starts_same, first_le (length sizes) (start_at_fault whole)))
 
-            pub goal_wrong : i < goals → Refused (GoalPair i) ≡ bodies
+            pub goal_wrong : i < goals → Err (GoalPair i) ≡ bodies
             unfolding bodies_rules task_rules
             goal_wrong h =
                 sym (from_goals
@@ -150,10 +149,10 @@ module _ (file : Bor (List ℕ)) (v : Verdict) (ev : v ≡ contents_verdict file
   unfolding file_verdict file_rules contents_verdict bodies_rules task_of
   in_turn_lem = rw ev (judge_append (contents_rules file.now) _)
 
-  pub contents_wrong : (why : Refusal) → v ≡ Refused why → v ≡ file_verdict file.now
+  pub contents_wrong : (why : Refusal) → v ≡ Err why → v ≡ file_verdict file.now
   contents_wrong why f = rw (in_turn_lem, f)
 
-  pub contents_right : (s₀ s₁ s₂ s₃ : Bor (List ℕ)) (p₀ p₁ p₂ p₃ : ℕ) (w : Verdict) → v ≡ Accepted
+  pub contents_right : (s₀ s₁ s₂ s₃ : Bor (List ℕ)) (p₀ p₁ p₂ p₃ : ℕ) (w : Verdict) → v ≡ Ok tt
       → Stretch file s₀ p₀ (body file.now 0) → Stretch file s₁ p₁ (body file.now 1)
       → Stretch file s₂ p₂ (body file.now 2) → Stretch file s₃ p₃ (body file.now 3)
       → w ≡ judge (bodies_rules s₀.now s₁.now s₂.now s₃.now) → w ≡ file_verdict file.now

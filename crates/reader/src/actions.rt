@@ -6,7 +6,7 @@ ghost use Rattle.reader.specs.Bodies.{action_read, actions_rule};
 use crate::checks::list_in_order;
 use crate::contents::byte_at;
 use crate::limits::{COUNT_BYTES, MAX_ACTIONS, PAIR_BYTES};
-use rules::{Refusal, Verdict};
+use rules::Refusal;
 
 // How many bytes the action takes that begins `rest`; none where it is at fault.
 pub(crate) fn read_action(sizes: &[u8], rest: &[u8]) -> Option<usize>
@@ -36,7 +36,7 @@ pub(crate) fn read_action(sizes: &[u8], rest: &[u8]) -> Option<usize>
 }
 
 // Refusal 7.
-pub(crate) fn actions_verdict(sizes: &[u8], actions: &[u8]) -> Verdict
+pub(crate) fn actions_verdict(sizes: &[u8], actions: &[u8]) -> Result<(), Refusal>
     ensures { result ≡ judge (actions_rule sizes.now actions.now) }
 {
     let mut at = 0;
@@ -44,13 +44,13 @@ pub(crate) fn actions_verdict(sizes: &[u8], actions: &[u8]) -> Verdict
     // Each turn goes on by as many bytes as the action takes that it read.
     while at < actions.len() {
         if a == MAX_ACTIONS {
-            return Verdict::Refused(Refusal::ActionAtFault(MAX_ACTIONS));
+            return Err(Refusal::ActionAtFault(MAX_ACTIONS));
         }
         let Some(bytes) = read_action(sizes, &actions[at..]) else {
-            return Verdict::Refused(Refusal::ActionAtFault(a));
+            return Err(Refusal::ActionAtFault(a));
         };
         at += bytes;
         a += 1;
     }
-    Verdict::Accepted
+    Ok(())
 }

@@ -1,12 +1,11 @@
 // The table of contents: refusals 1 and 2, and the bodies that its rows name.
-ghost use Rattle.std.specs.Prelude.{◌≡◌, [], ◌+◌, ◌*◌, ◌<◌, ◌≤◌, length};
+ghost use Rattle.std.specs.Prelude.{◌≡◌, [], ◌+◌, ◌*◌, ◌<◌, ◌≤◌, length, Ok};
 ghost use Rattle.rules.specs.Limits.{byte_values, contents_bytes, contents_rows};
 ghost use Rattle.rules.specs.File.{byte, word16, body_start, body_length, due_start, row_at_fault, contents_verdict, body, body_asked};
-ghost use Rattle.rules.specs.declared.Verdict.TheVariants.{Accepted};
 ghost use Rattle.reader.specs.Stretches.{Stretch, start_asked};
 
 use crate::limits::{BYTE_VALUES, CONTENTS_BYTES, CONTENTS_ROWS, MAX_FILE, ROW_BYTES};
-use rules::{Refusal, Verdict};
+use rules::Refusal;
 
 // The byte at place i.
 pub fn byte_at(s: &[u8], i: usize) -> usize
@@ -66,26 +65,26 @@ fn row_at_fault(file: &[u8], row: usize) -> bool
 }
 
 // Refusals 1 and 2: which of the two applies, if any.
-pub fn contents_verdict(file: &[u8]) -> Verdict
+pub fn contents_verdict(file: &[u8]) -> Result<(), Refusal>
     ensures { result ≡ contents_verdict file.now }
 {
     if file.len() < CONTENTS_BYTES {
-        return Verdict::Refused(Refusal::FileLength);
+        return Err(Refusal::FileLength);
     }
     if MAX_FILE < file.len() {
-        return Verdict::Refused(Refusal::FileLength);
+        return Err(Refusal::FileLength);
     }
     for row in 0..CONTENTS_ROWS {
         if row_at_fault(file, row) {
-            return Verdict::Refused(Refusal::ContentsRow(row));
+            return Err(Refusal::ContentsRow(row));
         }
     }
-    Verdict::Accepted
+    Ok(())
 }
 
 // The stretch that row `row` names; for accepted contents only.
 pub fn row_body(file: &[u8], row: usize) -> &[u8]
-    requires { (contents_verdict file.now ≡ Accepted) × (row < contents_rows) }
+    requires { (contents_verdict file.now ≡ Ok tt) × (row < contents_rows) }
     ensures { Stretch file.entry result (body_start file.now row) (body file.now row) }
 {
     let start = body_start(file, row);
@@ -103,7 +102,7 @@ fn no_body(file: &[u8]) -> &[u8]
 pub fn body_asked(file: &[u8], number: usize) -> &[u8]
     ensures { Stretch file.entry result (start_asked file.now number) (body_asked file.now number) }
 {
-    let Verdict::Accepted = contents_verdict(file) else {
+    let Ok(()) = contents_verdict(file) else {
         return no_body(file);
     };
     if number == 0 {

@@ -1,6 +1,7 @@
 -- Demands 2 and 3 over the calls, for an accepted file and a horizon from 0 to 64 with room enough lent: what each call accepts, what it writes, and
 -- that the end of a reading and the way back lead from a model to its completion and from a schedule to itself.
 -- Assumes nothing.
+use Rattle.std.specs.Prelude.{Ok}
 use mathlib.Core.Path.{◌≡◌, sym, ap, ◌∙◌}
 use mathlib.Core.Logic.{◌↔◌}
 use mathlib.Core.Bool.{Bool, true}
@@ -25,7 +26,6 @@ use Rattle.rules.specs.Readings.{schedule_of, assignment_of, rows_holding, rows_
 use Rattle.rules.specs.Lines.{rows_fit}
 use Rattle.rules.specs.Output.{outcome}
 use Rattle.rules.specs.Calls.{problem_of, problem_rules, clause_rules, room_rule, lent_rules, lent_after, rows_after, clause_verdict, header_verdict, clause_line_verdict, end_verdict, end_entries, back_verdict, back_rows}
-use Rattle.rules.specs.declared.Verdict.TheVariants.{Accepted}
 use Rattle.rules.specs.declared.Phase.{Phase}
 use Rattle.rules.specs.declared.Phase.TheVariants.{ModelClosed}
 use Rattle.rules.proofs.Bools.{and_both}
@@ -44,71 +44,71 @@ module _ (file : List ℕ) (k : ℕ) where
 
   -- Demand 2
   pub record CallsAnswer : Type 0 where
-    pub literals : (c room : ℕ) → c < C P → length (clause P c) ≤ room → clause_verdict file k c room ≡ Accepted
-    pub header : (room : ℕ) → length (header_line P) ≤ room → header_verdict file k room ≡ Accepted
-    pub line : (c room : ℕ) → c < C P → length (clause_line (clause P c)) ≤ room → clause_line_verdict file k c room ≡ Accepted
+    pub literals : (c room : ℕ) → c < C P → length (clause P c) ≤ room → clause_verdict file k c room ≡ Ok tt
+    pub header : (room : ℕ) → length (header_line P) ≤ room → header_verdict file k room ≡ Ok tt
+    pub line : (c room : ℕ) → c < C P → length (clause_line (clause P c)) ≤ room → clause_line_verdict file k c room ≡ Ok tt
     pub model : (phase : Phase) (rows : Rows) (entries : List ℕ) → rows_fit (N P) rows ≡ true → k ≤ length entries
-        → (end_verdict file k phase rows entries ≡ Accepted) ↔ ModelHolds P phase rows
-    pub becomes_schedule : (phase : Phase) (rows : Rows) (entries : List ℕ) → end_verdict file k phase rows entries ≡ Accepted
+        → (end_verdict file k phase rows entries ≡ Ok tt) ↔ ModelHolds P phase rows
+    pub becomes_schedule : (phase : Phase) (rows : Rows) (entries : List ℕ) → end_verdict file k phase rows entries ≡ Ok tt
         → end_entries file k phase rows entries ≡ schedule_of P (model_in rows) ++ drop k entries
     pub schedule : (entries : List ℕ) (rows : Rows) → rows_fit (N P) rows ≡ true → k ≤ length entries
-        → (back_verdict file k entries rows ≡ Accepted) ↔ CarriedOut (task_of file) k entries
-    pub becomes_model : (entries : List ℕ) (rows : Rows) → back_verdict file k entries rows ≡ Accepted → back_rows file k entries rows ≡ rows_of P entries rows
+        → (back_verdict file k entries rows ≡ Ok tt) ↔ CarriedOut (task_of file) k entries
+    pub becomes_model : (entries : List ℕ) (rows : Rows) → back_verdict file k entries rows ≡ Ok tt → back_rows file k entries rows ≡ rows_of P entries rows
 
   -- Demand 3: the way back of what the end wrote is the completion of the model that it read, and the end of what the way back wrote is its schedule
   pub record CallsPair : Type 0 where
     pub end_then_back : (phase : Phase) (rows lent : Rows) (entries : List ℕ) → rows_fit (N P) lent ≡ true
-        → end_verdict file k phase rows entries ≡ Accepted
-        → (back_verdict file k (end_entries file k phase rows entries) lent ≡ Accepted)
+        → end_verdict file k phase rows entries ≡ Ok tt
+        → (back_verdict file k (end_entries file k phase rows entries) lent ≡ Ok tt)
         × (back_rows file k (end_entries file k phase rows entries) lent ≡ rows_holding P (completion P (model_in rows)) lent)
     pub back_then_end : (rows : Rows) (entries lent : List ℕ) → k ≤ length lent → k ≤ length entries
-        → back_verdict file k entries rows ≡ Accepted
-        → (end_verdict file k ModelClosed (back_rows file k entries rows) lent ≡ Accepted)
+        → back_verdict file k entries rows ≡ Ok tt
+        → (end_verdict file k ModelClosed (back_rows file k entries rows) lent ≡ Ok tt)
         × (take k (end_entries file k ModelClosed (back_rows file k entries rows) lent) ≡ take k entries)
 
 -- ---- the proofs
 
 -- all that is judged before room, in an accepted file's calls
-module _ (file : List ℕ) (fine : file_verdict file ≡ Accepted) (k : ℕ) (small : k ≤ max_horizon) where
+module _ (file : List ℕ) (fine : file_verdict file ≡ Ok tt) (k : ℕ) (small : k ≤ max_horizon) where
   abbrev T : Task
   T = task_of file
 
-  pub within : judge (problem_rules file k) ≡ Accepted
+  pub within : judge (problem_rules file k) ≡ Ok tt
   unfolding problem_rules file_verdict
   within = judge_append (file_rules file) _ ∙ in_turn-both _ _ fine (judge_cons _ _ (le-leb _ _ small) judge_nil)
 
   -- one more rule behind those
-  and_then : (r : Rule) → r.holds ≡ true → judge (problem_rules file k ++ (r ∷ [])) ≡ Accepted
+  and_then : (r : Rule) → r.holds ≡ true → judge (problem_rules file k ++ (r ∷ [])) ≡ Ok tt
   and_then r h = judge_append (problem_rules file k) _ ∙ in_turn-both _ _ within (judge_cons _ _ h judge_nil)
 
-  clause_there : (c : ℕ) → c < C (P file k) → judge (clause_rules file k c) ≡ Accepted
+  clause_there : (c : ℕ) → c < C (P file k) → judge (clause_rules file k c) ≡ Ok tt
   unfolding clause_rules
   clause_there c h = and_then _ (lt-ltb _ _ h)
 
-  with_room : (rules : List Rule) (needed room : ℕ) → judge rules ≡ Accepted → needed ≤ room → judge (rules ++ room_rule needed room) ≡ Accepted
+  with_room : (rules : List Rule) (needed room : ℕ) → judge rules ≡ Ok tt → needed ≤ room → judge (rules ++ room_rule needed room) ≡ Ok tt
   with_room rules needed room h l = judge_append rules _ ∙ in_turn-both _ _ h (judge_cons _ _ (le-leb _ _ l) judge_nil)
 
   pub lent_enough : (rows : Rows) (entries : List ℕ) → rows_fit (N (P file k)) rows ≡ true → k ≤ length entries
-      → judge (lent_rules file k rows entries) ≡ Accepted
+      → judge (lent_rules file k rows entries) ≡ Ok tt
   lent_enough rows entries f l = and_then _ (and_both _ _ f (le-leb _ _ l))
 
-  end_outcome : (phase : Phase) (rows : Rows) (entries : List ℕ) → end_verdict file k phase rows entries ≡ Accepted → outcome (P file k) phase rows ≡ Accepted
+  end_outcome : (phase : Phase) (rows : Rows) (entries : List ℕ) → end_verdict file k phase rows entries ≡ Ok tt → outcome (P file k) phase rows ≡ Ok tt
   unfolding end_verdict
   end_outcome phase rows entries h = in_turn-right (judge (lent_rules file k rows entries)) _ h
 
   end_accepted : (phase : Phase) (rows : Rows) (entries : List ℕ) → rows_fit (N (P file k)) rows ≡ true → k ≤ length entries
-      → ModelHolds (P file k) phase rows → end_verdict file k phase rows entries ≡ Accepted
+      → ModelHolds (P file k) phase rows → end_verdict file k phase rows entries ≡ Ok tt
   unfolding end_verdict
   end_accepted phase rows entries f l m = in_turn-both _ _ (lent_enough rows entries f l) (holds_accepted (P file k) rows phase m)
 
-  back_carried : (entries : List ℕ) (rows : Rows) → back_verdict file k entries rows ≡ Accepted → CarriedOut T k entries
+  back_carried : (entries : List ℕ) (rows : Rows) → back_verdict file k entries rows ≡ Ok tt → CarriedOut T k entries
   unfolding back_verdict
   back_carried entries rows h =
       carried_out T k entries
       (in_turn-right (judge (lent_rules file k rows entries)) _ (sym (judge_append (lent_rules file k rows entries) (schedule_rules T k entries)) ∙ h))
 
   back_accepted : (entries : List ℕ) (rows : Rows) → rows_fit (N (P file k)) rows ≡ true → k ≤ length entries → CarriedOut T k entries
-      → back_verdict file k entries rows ≡ Accepted
+      → back_verdict file k entries rows ≡ Ok tt
   unfolding back_verdict
   back_accepted entries rows f l c =
       judge_append (lent_rules file k rows entries) (schedule_rules T k entries) ∙ in_turn-both _ _ (lent_enough rows entries f l) (out_carried T k entries c)
@@ -162,7 +162,7 @@ module _ (file : List ℕ) (fine : file_verdict file ≡ Accepted) (k : ℕ) (sm
             omega (arith, length-append (schedule_of (P file k) (model_in rows)) (drop k entries), length-schedule T k (model_in rows)) in
             let c : CarriedOut T k written =
             carried_ext T k (schedule_of (P file k) (model_in rows)) written (written_entry rows entries) (model_good T well k (model_in rows) m.all_true) in
-            let accepted : back_verdict file k written lent ≡ Accepted = back_accepted written lent f long c in
+            let accepted : back_verdict file k written lent ≡ Ok tt = back_accepted written lent f long c in
             rw is (
               accepted,
               calls_answer.becomes_model written lent accepted
@@ -172,7 +172,7 @@ module _ (file : List ℕ) (fine : file_verdict file ≡ Accepted) (k : ℕ) (sm
         back_then_end = λ rows entries lent l size h.
             let c : CarriedOut T k entries = back_carried entries rows h in
             let is : back_rows file k entries rows ≡ rows_of (P file k) entries rows = calls_answer.becomes_model entries rows h in
-            let accepted : end_verdict file k ModelClosed (rows_of (P file k) entries rows) lent ≡ Accepted =
+            let accepted : end_verdict file k ModelClosed (rows_of (P file k) entries rows) lent ≡ Ok tt =
             end_accepted ModelClosed (rows_of (P file k) entries rows) lent (rows_written_fit entries rows) l (schedule_rows T well k entries rows c) in
             rw is (
               accepted,

@@ -1,5 +1,6 @@
 -- The table of contents: what its acceptance says, and bodies are read back from the file that holds them behind their contents.
 -- Assumes nothing.
+use Rattle.std.specs.Prelude.{Ok}
 use mathlib.Core.Path.{◌≡◌, refl, sym, ap, ◌∙◌}
 use mathlib.Core.Logic.{⊎_elim}
 use mathlib.Core.Bool.{false, not}
@@ -13,7 +14,6 @@ use lib.Seq.{get_or-append-add, drop-append-add}
 use Rattle.rules.specs.Counting.{sum_to, joined}
 use Rattle.rules.specs.Limits.{max_file, contents_rows, contents_bytes, row_bytes}
 use Rattle.rules.specs.File.{byte, word16, body_start, body_length, due_start, row_at_fault, contents_rules, contents_verdict, body, bytes16, contents_from}
-use Rattle.rules.specs.declared.Verdict.TheVariants.{Accepted}
 use Rattle.rules.proofs.Bools.{either, and_left, and_right, and_both, neither_left, neither_right, not_false}
 use Rattle.rules.proofs.Counting.{none_at, none_test, length-joined, part_joined, sum_to-front}
 use Rattle.rules.proofs.Judging.{judge_head, judge_tail, judge_cons, judge_nil}
@@ -27,7 +27,7 @@ pub record Contents (file : List ℕ) : Type 0 where
   pub starts : (r : ℕ) → r < contents_rows → body_start file r ≡ due_start file r
   pub ends : due_start file contents_rows ≡ length file
 
-pub accepted_contents : (file : List ℕ) → contents_verdict file ≡ Accepted → Contents file
+pub accepted_contents : (file : List ℕ) → contents_verdict file ≡ Ok tt → Contents file
 unfolding contents_verdict contents_rules row_at_fault
 accepted_contents file h =
     let lengths = judge_head _ _ h in
@@ -40,7 +40,7 @@ accepted_contents file h =
       ends = eqb-true _ _ (not_false _ (neither_right (not (eqb (body_start file last) (due_start file last))) _ (row last (omega arith))));
     }
 
-pub contents_accepted : (file : List ℕ) → Contents file → contents_verdict file ≡ Accepted
+pub contents_accepted : (file : List ℕ) → Contents file → contents_verdict file ≡ Ok tt
 unfolding contents_verdict contents_rules row_at_fault
 contents_accepted file c =
     judge_cons _ _

@@ -1,5 +1,6 @@
 -- Demands 2 and 3 as statements about the definitions in specs/. Proved.antt proves both, for every valid task and every horizon.
 -- Assumes nothing.
+use Rattle.std.specs.Prelude.{Ok, Err}
 use mathlib.Core.Path.{◌≡◌}
 use mathlib.Core.Logic.{◌↔◌}
 use mathlib.Core.Bool.{Bool, true, false}
@@ -20,7 +21,6 @@ use Rattle.rules.specs.Walk.{schedule_rules, CarriedOut, Good, is_plan}
 use Rattle.rules.specs.Readings.{schedule_of, assignment_of, rows_of}
 use Rattle.rules.specs.Output.{outcome}
 use Rattle.rules.specs.declared.Refusal.TheVariants.{UnmetClause}
-use Rattle.rules.specs.declared.Verdict.TheVariants.{Accepted, Refused}
 use Rattle.rules.specs.declared.Phase.{Phase}
 use Rattle.rules.specs.declared.Phase.TheVariants.{ModelClosed}
 use Rattle.rules.proofs.Endings.{ModelHolds, LowestUnmet}
@@ -38,10 +38,10 @@ module _ (T : Task) (k : ℕ) where
     pub counted : map length (families P) ≡ count_table T k
     pub header :
         header_line P ≡ ascii "p cnf " ++ decimal (k * (S T + A T) + S T) ++ (space ∷ []) ++ decimal (sum (count_table T k)) ++ (lf ∷ [])
-    pub model : (phase : Phase) (rows : Rows) → (outcome P phase rows ≡ Accepted) ↔ ModelHolds P phase rows
-    pub refused : (rows : Rows) (c : ℕ) → (outcome P ModelClosed rows ≡ Refused (UnmetClause c)) ↔ LowestUnmet P rows c
+    pub model : (phase : Phase) (rows : Rows) → (outcome P phase rows ≡ Ok tt) ↔ ModelHolds P phase rows
+    pub refused : (rows : Rows) (c : ℕ) → (outcome P ModelClosed rows ≡ Err (UnmetClause c)) ↔ LowestUnmet P rows c
     pub states : (M : Model) → schedule_of P M ≡ schedule_of P (assigned (completion P M))
-    pub schedule : (entries : List ℕ) → (judge (schedule_rules T k entries) ≡ Accepted) ↔ CarriedOut T k entries
+    pub schedule : (entries : List ℕ) → (judge (schedule_rules T k entries) ≡ Ok tt) ↔ CarriedOut T k entries
     pub rows_hold : (entries : List ℕ) (rows : Rows) (i : ℕ) → i < N P
         → (bit_of_variable (rows_of P entries rows).given (suc i) ≡ true)
         × (bit_of_variable (rows_of P entries rows).is_true (suc i) ≡ get_or (assignment_of P entries) i false)

@@ -1,6 +1,7 @@
 -- The end of a reading in words: a closed model is accepted exactly if every clause has a true literal among those named, and else refused with 17 and
 -- the lowest clause that has none.
 -- Assumes nothing.
+use Rattle.std.specs.Prelude.{Ok, Err}
 use mathlib.Core.Path.{◌≡◌, refl, sym, ap, ◌∙◌}
 use mathlib.Core.Logic.{◌↔◌, ⊎_elim}
 use mathlib.Core.Bool.{Bool, true, false, not}
@@ -18,7 +19,6 @@ use Rattle.rules.specs.Truth.{clause_true, satisfies, model_in}
 use Rattle.rules.specs.Output.{ending, model_rules, outcome}
 use Rattle.rules.specs.declared.Refusal.{Refusal}
 use Rattle.rules.specs.declared.Refusal.TheVariants.{FileLength, ContentsRow, BodyLength, DomainSize, StartValue, GoalPair, ActionAtFault, Horizon, ClauseNumber, Room, Grammar, OutOfPlace, OverN, GivenBefore, Unfinished, UnmetClause, Unsatisfiable, Unknown, EntryOverA, DoesNotApply, GoalUnmet, AgainstFormat, AxiomOrCondition, OtherVersion}
-use Rattle.rules.specs.declared.Verdict.TheVariants.{Accepted, Refused}
 use Rattle.rules.specs.declared.Phase.{Phase}
 use Rattle.rules.specs.declared.Phase.TheVariants.{NoStatus, ModelOpen, ModelClosed, SaidUnsatisfiable, SaidUnknown}
 use Rattle.rules.proofs.Bools.{either, not_true, not_false}
@@ -30,7 +30,7 @@ pub record ModelHolds (P : Problem) (phase : Phase) (rows : Rows) : Type 0 where
   pub closed : phase ≡ ModelClosed
   pub all_true : satisfies (model_in rows) (formula P) ≡ true
 
-accepted_closed : (phase : Phase) → ending phase ≡ Accepted → phase ≡ ModelClosed
+accepted_closed : (phase : Phase) → ending phase ≡ Ok tt → phase ≡ ModelClosed
 accepted_closed NoStatus h = refused_not h
 accepted_closed ModelOpen h = refused_not h
 accepted_closed ModelClosed h = refl
@@ -38,7 +38,7 @@ accepted_closed SaidUnsatisfiable h = refused_not h
 accepted_closed SaidUnknown h = refused_not h
 
 module _ (P : Problem) (rows : Rows) where
-  pub accepted_holds : (phase : Phase) → outcome P phase rows ≡ Accepted → ModelHolds P phase rows
+  pub accepted_holds : (phase : Phase) → outcome P phase rows ≡ Ok tt → ModelHolds P phase rows
   unfolding outcome model_rules satisfies C clause
   accepted_holds phase h =
       let m = in_turn-right (ending phase) _ h in
@@ -49,7 +49,7 @@ module _ (P : Problem) (rows : Rows) where
             not_false _ (none_at (C P) (λ c. not (clause_true (model_in rows) (clause P c))) (judge_head _ _ m) c l));
       }
 
-  pub holds_accepted : (phase : Phase) → ModelHolds P phase rows → outcome P phase rows ≡ Accepted
+  pub holds_accepted : (phase : Phase) → ModelHolds P phase rows → outcome P phase rows ≡ Ok tt
   unfolding outcome model_rules satisfies C clause
   holds_accepted phase m =
       in_turn-both _ _ (ap ending m.closed)
@@ -81,15 +81,15 @@ module _ (P : Problem) (rows : Rows) where
         met_before = λ i h. not_false _ (first_before (C P) is_unmet i h);
       }
 
-  refuses : eqb lowest (C P) ≡ false → outcome P ModelClosed rows ≡ Refused (UnmetClause lowest)
+  refuses : eqb lowest (C P) ≡ false → outcome P ModelClosed rows ≡ Err (UnmetClause lowest)
   unfolding outcome model_rules
   refuses f = judge_refused _ _ f
 
-  accepts : eqb lowest (C P) ≡ true → outcome P ModelClosed rows ≡ Accepted
+  accepts : eqb lowest (C P) ≡ true → outcome P ModelClosed rows ≡ Ok tt
   unfolding outcome model_rules
   accepts t = judge_passed _ _ t ∙ judge_nil
 
-  pub seventeen : (c : ℕ) → (outcome P ModelClosed rows ≡ Refused (UnmetClause c)) ↔ LowestUnmet c
+  pub seventeen : (c : ℕ) → (outcome P ModelClosed rows ≡ Err (UnmetClause c)) ↔ LowestUnmet c
   seventeen c = (
     λ h.
         ⊎_elim (λ t. refused_not (sym h ∙ accepts t))
@@ -102,7 +102,7 @@ module _ (P : Problem) (rows : Rows) where
     λ l.
         let is : lowest ≡ c = first_is (C P) is_unmet c l.there (ap not l.unmet) (λ i h. ap not (l.met_before i h)) in
         ⊎_elim (λ t. let e : lowest ≡ C P = eqb-true _ _ t in absurd (let b = l.there in omega arith))
-        (λ f. refuses f ∙ ap (λ c. Refused (UnmetClause c)) is)
+        (λ f. refuses f ∙ ap (λ c. Err (UnmetClause c)) is)
         (either (eqb lowest (C P))),
   )
 

@@ -1,5 +1,6 @@
 -- The figures that the rules state, for every valid task and every horizon from 0 to 64, and that files and tasks match.
 -- Assumes nothing.
+use Rattle.std.specs.Prelude.{Ok}
 use mathlib.Core.Path.{◌≡◌, refl}
 use mathlib.Core.Logic.{◌⊎◌, ◌↔◌}
 use mathlib.Core.Bool.{true}
@@ -13,7 +14,6 @@ use Rattle.rules.specs.File.{task_of, file_of, file_verdict}
 use Rattle.rules.specs.Problem.{problem}
 use Rattle.rules.specs.Numbering.{N, value_number, action_number}
 use Rattle.rules.specs.Families.{C, clause}
-use Rattle.rules.specs.declared.Verdict.TheVariants.{Accepted}
 use Rattle.rules.proofs.Valid.{WellFormed, valid_well_formed, well_formed_valid}
 use Rattle.rules.proofs.Bounds.{N-bound, C-bound, clause_bound}
 use Rattle.rules.proofs.Files.{accepted_valid, well_formed_accepted, read_back, file_short, is_byte, file_bytes}
@@ -69,8 +69,8 @@ figures T v k h =
 
 -- an accepted file states a valid task, and each valid task has a file, of bytes, that is accepted and states it
 pub record Matching : Type 0 where
-  pub file_to_task : (file : List ℕ) → file_verdict file ≡ Accepted → Valid (task_of file)
-  pub task_to_file : (T : Task) → Valid T → file_verdict (file_of T) ≡ Accepted
+  pub file_to_task : (file : List ℕ) → file_verdict file ≡ Ok tt → Valid (task_of file)
+  pub task_to_file : (T : Task) → Valid T → file_verdict (file_of T) ≡ Ok tt
   pub of_bytes : (T : Task) → Valid T → every is_byte (file_of T) ≡ true
   pub read_as : (T : Task) → task_of (file_of T) ≡ T
 

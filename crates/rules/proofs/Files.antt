@@ -1,5 +1,6 @@
 -- Task files: an accepted file states a valid task, and each valid task has a file that is accepted and read back as it.
 -- Assumes nothing.
+use Rattle.std.specs.Prelude.{Ok}
 use mathlib.Core.Path.{◌≡◌, refl, sym, ap, ◌∙◌}
 use mathlib.Core.Bool.{Bool, true}
 use mathlib.Core.List.{List, [], ◌∷◌, ◌++◌, map}
@@ -12,7 +13,6 @@ use Rattle.rules.specs.Counting.{sum_to, every, joined}
 use Rattle.rules.specs.Limits.{max_file, max_action, byte_values, contents_bytes, contents_rows, pair_bytes}
 use Rattle.rules.specs.Task.{Pair, Action, Task, n, A, start_value, pair, action, Valid}
 use Rattle.rules.specs.File.{contents_rules, contents_verdict, body, pairs_at, action_in, rests, is_whole, task_of, file_rules, file_verdict, pair_text, action_text, bodies_of, bytes16, contents_from, file_of}
-use Rattle.rules.specs.declared.Verdict.TheVariants.{Accepted}
 use Rattle.rules.proofs.Counting.{sum_to-le, sum_to-const, length-for_each, for_each-joined, every_append, every_for_each, every_joined, every_by}
 use Rattle.rules.proofs.Judging.{judge_append, in_turn-left, in_turn-right, in_turn-both}
 use Rattle.rules.proofs.Valid.{Inside, InOrder, ActionFine, WellFormed, Judged, accepted_judged, judged_accepted, well_formed_valid}
@@ -26,7 +26,7 @@ pub record FileJudged (file : List ℕ) : Type 0 where
   pub contents : Contents file
   pub task : Judged (eqb (length (body file 2) % pair_bytes) 0) (is_whole (rests (body file 3))) (task_of file)
 
-pub accepted_file : (file : List ℕ) → file_verdict file ≡ Accepted → FileJudged file
+pub accepted_file : (file : List ℕ) → file_verdict file ≡ Ok tt → FileJudged file
 unfolding file_verdict file_rules contents_verdict
 accepted_file file h =
     let turns = sym (judge_append (contents_rules file) _) ∙ h in
@@ -35,16 +35,16 @@ accepted_file file h =
       task = accepted_judged _ _ (task_of file) (in_turn-right (contents_verdict file) _ turns);
     }
 
-pub file_accepted : (file : List ℕ) → FileJudged file → file_verdict file ≡ Accepted
+pub file_accepted : (file : List ℕ) → FileJudged file → file_verdict file ≡ Ok tt
 unfolding file_verdict file_rules contents_verdict
 file_accepted file f =
     judge_append (contents_rules file) _ ∙ in_turn-both _ _ (contents_accepted file f.contents) (judged_accepted _ _ (task_of file) f.task)
 
 -- an accepted file states a valid task
-pub accepted_well_formed : (file : List ℕ) → file_verdict file ≡ Accepted → WellFormed (task_of file)
+pub accepted_well_formed : (file : List ℕ) → file_verdict file ≡ Ok tt → WellFormed (task_of file)
 accepted_well_formed file h = (accepted_file file h).task.well_formed
 
-pub accepted_valid : (file : List ℕ) → file_verdict file ≡ Accepted → Valid (task_of file)
+pub accepted_valid : (file : List ℕ) → file_verdict file ≡ Ok tt → Valid (task_of file)
 accepted_valid file h = well_formed_valid (task_of file) (accepted_well_formed file h)
 
 -- ---- the file of a task
@@ -87,7 +87,7 @@ file_short T t =
     )
 
 -- each valid task's file is accepted
-pub well_formed_accepted : (T : Task) → WellFormed T → file_verdict (file_of T) ≡ Accepted
+pub well_formed_accepted : (T : Task) → WellFormed T → file_verdict (file_of T) ≡ Ok tt
 unfolding file_of bodies_of
 well_formed_accepted T t =
     file_accepted (file_of T)

@@ -1,5 +1,6 @@
 -- Lines of the translator's text that are in order: each kind is read as what it says, and lines are read one behind the other.
 -- Assumes nothing.
+use Rattle.std.specs.Prelude.{Ok}
 use mathlib.Core.Path.{◌≡◌, refl, ap, ◌∙◌}
 use mathlib.Core.Logic.{◌⊎◌, inl, inr, ⊎_elim}
 use mathlib.Core.Bool.{true, not, ◌||◌}
@@ -20,7 +21,6 @@ use Rattle.rules.specs.Format.{Stated, Shape, keyword, name, layer, number, fact
 use Rattle.rules.specs.Translation.{TextReading, shape_due, read_text_line, read_further}
 use Rattle.rules.specs.declared.FormatLine.{FormatLine}
 use Rattle.rules.specs.declared.FormatLine.TheVariants.{AxiomLayer, Effect, AxiomCount}
-use Rattle.rules.specs.declared.Verdict.TheVariants.{Accepted}
 use Rattle.rules.proofs.Bools.{and_both, or_left, or_right, below_or}
 use Rattle.rules.proofs.Counting.{every_one, every_append}
 use Rattle.rules.proofs.Judging.{judge_cons, judge_nil}
@@ -30,7 +30,7 @@ use Rattle.rules.proofs.Spoken.{all_digits, value_back, leading, free, pieces_on
 -- ---- lines one behind the other
 
 abbrev pub reading_at : ℕ → List FormatLine → Stated → TextReading
-reading_at lines due s = record { verdict = Accepted; lines = lines; due = due; stated = s }
+reading_at lines due s = record { verdict = Ok tt; lines = lines; due = due; stated = s }
 
 abbrev pub step : TextReading → List ℕ → TextReading
 step reading line = read_further reading.verdict reading line
@@ -56,7 +56,7 @@ module _ (l m : List (List ℕ)) (due due' due'' : List FormatLine) (s s' s'' : 
         whole = every_append (free lf) l m p.whole q.whole;
       }
 
-pub one_line : (line : List ℕ) (d : FormatLine) (due : List FormatLine) (s : Stated) → ((at : ℕ) → judge (line_rules (shape_of d) at line) ≡ Accepted) → free lf line ≡ true
+pub one_line : (line : List ℕ) (d : FormatLine) (due : List FormatLine) (s : Stated) → ((at : ℕ) → judge (line_rules (shape_of d) at line) ≡ Ok tt) → free lf line ≡ true
     → Reads (line ∷ []) (d ∷ due) s (lines_announced (shape_of d) line ++ due) (stated (shape_of d) line s)
 unfolding read_text_line shape_due
 one_line line d due s h f =
@@ -139,7 +139,7 @@ effect_whole p =
 -- ---- a line of each kind
 
 module _ (d : FormatLine) (due : List FormatLine) (s : Stated) where
-  shaped : (shape : Shape) (line : List ℕ) → shape_of d ≡ shape → ((at : ℕ) → judge (line_rules shape at line) ≡ Accepted) → free lf line ≡ true
+  shaped : (shape : Shape) (line : List ℕ) → shape_of d ≡ shape → ((at : ℕ) → judge (line_rules shape at line) ≡ Ok tt) → free lf line ≡ true
       → Reads (line ∷ []) (d ∷ due) s (lines_announced shape line ++ due) (stated shape line s)
   shaped shape line e h f =
       rw (ap (λ shape. Reads (line ∷ []) (d ∷ due) s (lines_announced shape line ++ due) (stated shape line s)) e) at

@@ -1,5 +1,6 @@
 -- All good schedules for a horizon, listed by trying every row of entries: each good schedule stands in the list, and nothing else does.
 -- Assumes nothing.
+use Rattle.std.specs.Prelude.{Ok, Err}
 use mathlib.Core.Path.{◌≡◌, refl, sym, ap, ◌∙◌}
 use mathlib.Core.Logic.{⊎_elim}
 use mathlib.Core.Bool.{Bool, true, false}
@@ -8,11 +9,9 @@ use Prim.Native.Nat.{ℕ, zero, suc, ◌≤◌, ◌<◌}
 use native.Mathlib.Omega.{arith}
 use lib.ListN.{length}
 use Rattle.rules.specs.Counting.{for_each, when}
-use Rattle.rules.specs.Answers.{judge}
+use Rattle.rules.specs.Answers.{judge, Verdict}
 use Rattle.rules.specs.Task.{Task, A}
 use Rattle.rules.specs.Walk.{entry, schedule_rules, Good}
-use Rattle.rules.specs.declared.Verdict.{Verdict}
-use Rattle.rules.specs.declared.Verdict.TheVariants.{Accepted, Refused}
 use Rattle.rules.proofs.Bools.{clash, below_suc}
 use Rattle.rules.proofs.Schedules.{carried_out, out_carried}
 
@@ -22,12 +21,12 @@ all_rows m zero = [] ∷ []
 all_rows m (suc k) = for_each (suc m) (λ e. map (λ row. e ∷ row) (all_rows m k))
 
 abbrev pub is_accepted : Verdict → Bool
-is_accepted Accepted = true
-is_accepted (Refused why) = false
+is_accepted (Ok _) = true
+is_accepted (Err why) = false
 
-accepted_is : (v : Verdict) → is_accepted v ≡ true → v ≡ Accepted
-accepted_is Accepted h = refl
-accepted_is (Refused why) h = clash h refl
+accepted_is : (v : Verdict) → is_accepted v ≡ true → v ≡ Ok tt
+accepted_is (Ok _) h = refl
+accepted_is (Err why) h = clash h refl
 
 -- those that are in order
 unfoldable pub in_order : Task → ℕ → List (List ℕ) → List (List ℕ)
@@ -77,20 +76,20 @@ all_long m (suc k) row h =
     let r = of_map f.0 row (all_rows m k) f.1 in
     ap length r.2 ∙ ap suc (all_long m k r.0 r.1)
 
-in_order_lem : (T : Task) (k : ℕ) (rows : List (List ℕ)) (row : List ℕ) → Memᴰ row rows → judge (schedule_rules T k row) ≡ Accepted → Memᴰ row (in_order T k rows)
+in_order_lem : (T : Task) (k : ℕ) (rows : List (List ℕ)) (row : List ℕ) → Memᴰ row rows → judge (schedule_rules T k row) ≡ Ok tt → Memᴰ row (in_order T k rows)
 unfolding in_order
 in_order_lem T k [] row h a = absurd (mathlib.Core.List.Memᴰ.not-nil h)
 in_order_lem T k (r ∷ rows) row h a =
     ⊎_elim
     (λ q.
-    let e : judge (schedule_rules T k r) ≡ Accepted = ap (λ t. judge (schedule_rules T k t)) (sym q) ∙ a in
+    let e : judge (schedule_rules T k r) ≡ Ok tt = ap (λ t. judge (schedule_rules T k t)) (sym q) ∙ a in
     let there : Memᴰ row (when (is_accepted (judge (schedule_rules T k r))) (r ∷ [])) = rw e (mathlib.Core.List.Memᴰ.head q) in
     mathlib.Core.List.Memᴰ.append_left (in_order T k rows) there)
     (λ q. mathlib.Core.List.Memᴰ.append_right (when (is_accepted (judge (schedule_rules T k r))) (r ∷ [])) (in_order_lem T k rows row q a))
     (mathlib.Core.List.Memᴰ.cases_cons h)
 
 of_order : (T : Task) (k : ℕ) (rows : List (List ℕ)) (row : List ℕ) → Memᴰ row (in_order T k rows)
-    → Memᴰ row rows × (judge (schedule_rules T k row) ≡ Accepted)
+    → Memᴰ row rows × (judge (schedule_rules T k row) ≡ Ok tt)
 unfolding in_order
 of_order T k [] row h = absurd (mathlib.Core.List.Memᴰ.not-nil h)
 of_order T k (r ∷ rows) row h =

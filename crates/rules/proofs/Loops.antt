@@ -1,5 +1,6 @@
 -- Laws of loops that go up from 0: a search that stops at the first number of which something holds, and a sum that grows.
 -- Assumes nothing.
+use Rattle.std.specs.Prelude.{Err}
 use mathlib.Core.Path.{◌≡◌, refl, sym, ap, ◌∙◌}
 use mathlib.Core.Logic.{⊎_elim}
 use mathlib.Core.Bool.{Bool, true, false}
@@ -11,7 +12,6 @@ use borrow.Author.Tests.{eq-eqb, ne_eqb}
 use Rattle.rules.specs.Counting.{first, sum_to}
 use Rattle.rules.specs.Answers.{Rule, none_at_fault, judge}
 use Rattle.rules.specs.declared.Refusal.{Refusal}
-use Rattle.rules.specs.declared.Verdict.TheVariants.{Refused}
 use Rattle.rules.proofs.Bools.{clash, below_or, below_suc}
 use Rattle.rules.proofs.Counting.{first_before, first_at, first_is, first_none}
 use Rattle.rules.proofs.Judging.{judge_refused, judge_passed}
@@ -56,8 +56,8 @@ module _ (w : ℕ → ℕ) where
 -- ---- a rule that none of the numbers below m is at fault
 
 module _ (m : ℕ) (p : ℕ → Bool) (refusal : ℕ → Refusal) (rs : List Rule) where
-  pub judge_found : (i : ℕ) → i < m → i ≡ first m p → judge (none_at_fault m p refusal ∷ rs) ≡ Refused (refusal i)
-  judge_found i l e = judge_refused _ rs (ne_eqb (first m p) m (λ h. omega arith)) ∙ ap (λ k. Refused (refusal k)) (sym e)
+  pub judge_found : (i : ℕ) → i < m → i ≡ first m p → judge (none_at_fault m p refusal ∷ rs) ≡ Err (refusal i)
+  judge_found i l e = judge_refused _ rs (ne_eqb (first m p) m (λ h. omega arith)) ∙ ap (λ k. Err (refusal k)) (sym e)
 
   pub judge_none : first m p ≡ m → judge (none_at_fault m p refusal ∷ rs) ≡ judge rs
   judge_none e = judge_passed _ rs (eq-eqb _ _ e)

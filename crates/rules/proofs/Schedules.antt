@@ -1,5 +1,6 @@
 -- Rule 1: a schedule of entries is a run with at most one move a step. With the pairing this is demand 3.
 -- Assumes nothing.
+use Rattle.std.specs.Prelude.{Ok}
 use mathlib.Core.Path.{◌≡◌, refl, sym, ap, ◌∙◌}
 use mathlib.Core.Logic.{⊎_elim}
 use mathlib.Core.Bool.{Bool, true, false, cond, not}
@@ -19,7 +20,6 @@ use Rattle.rules.specs.Families.{formula}
 use Rattle.rules.specs.Truth.{Model, literal_true, satisfies, assigned}
 use Rattle.rules.specs.Walk.{State, holds, applies, set_pairs, apply, reached, entry, entry_applies, after_entry, state_at, schedule_rules, CarriedOut}
 use Rattle.rules.specs.Readings.{true_action, entry_of, schedule_of, value_bits, action_bits, assignment_of}
-use Rattle.rules.specs.declared.Verdict.TheVariants.{Accepted}
 use Rattle.rules.proofs.Bools.{clash, not_false, below_or, same_truth}
 use Rattle.rules.proofs.Counting.{first_at, first_before, first_ext, first_none, first_is, none_at, none_test, length-table, get_or-table, every_by, every_get_or}
 use Rattle.rules.proofs.Judging.{judge_head, judge_tail, judge_cons, judge_nil}
@@ -57,7 +57,7 @@ same_walk T schedule (suc s) =
 -- ---- good schedules are runs
 
 -- refusals 20 to 22 apply to just the schedules that cannot be carried out or miss the goal
-pub carried_out : (T : Task) (k : ℕ) (schedule : List ℕ) → judge (schedule_rules T k schedule) ≡ Accepted → CarriedOut T k schedule
+pub carried_out : (T : Task) (k : ℕ) (schedule : List ℕ) → judge (schedule_rules T k schedule) ≡ Ok tt → CarriedOut T k schedule
 unfolding schedule_rules reached
 carried_out T k schedule h₂₀ =
     let h₂₁ = judge_tail _ _ h₂₀ in
@@ -71,7 +71,7 @@ carried_out T k schedule h₂₀ =
           not_false _ (none_at (length T.goal) (λ i. not (holds (state_at T schedule k) (pair T.goal i))) (judge_head _ _ h₂₂) i l));
     }
 
-pub out_carried : (T : Task) (k : ℕ) (schedule : List ℕ) → CarriedOut T k schedule → judge (schedule_rules T k schedule) ≡ Accepted
+pub out_carried : (T : Task) (k : ℕ) (schedule : List ℕ) → CarriedOut T k schedule → judge (schedule_rules T k schedule) ≡ Ok tt
 unfolding schedule_rules reached
 out_carried T k schedule c =
     judge_cons _ _ (none_test k (λ s. ltb (A T) (entry schedule s)) (λ s l. le-ltb _ _ (c.entries_known s l)))

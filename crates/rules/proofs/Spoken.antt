@@ -1,5 +1,6 @@
 -- Numbers that a solver says in decimal are read as what they say: the text of a literal is a number of the grammar and names that literal.
 -- Assumes nothing.
+use Rattle.std.specs.Prelude.{Ok}
 use Prim.Native.Char.{code}
 use mathlib.Core.Path.{◌≡◌, refl, ap, ◌∙◌}
 use mathlib.Core.Logic.{⊎_elim}
@@ -16,9 +17,7 @@ use Rattle.rules.specs.File.{byte}
 use Rattle.rules.specs.Families.{Literal, plus, minus}
 use Rattle.rules.specs.Answers.{judge}
 use Rattle.rules.specs.Rows.{Rows, bit_of_variable, store, store_all}
-use Rattle.rules.specs.declared.Verdict.TheVariants.{Accepted}
 use Rattle.rules.specs.declared.Phase.TheVariants.{NoStatus, ModelOpen, ModelClosed}
-use Rattle.rules.specs.declared.LineAnswer.{LineAnswer}
 use Rattle.rules.specs.Text.{ascii, space, digit0, dash, decimal, literal_text}
 use Rattle.rules.specs.Lines.{pieces, is_digit, reach, is_number, value_from, variable_of, literal_of, Scan, word_rules, scan_word, scan_piece, scan_pieces, scan_start, scan_line, agree, same, says_satisfiable, says_unsatisfiable, says_unknown, is_status, phase_said, kind_of, kind_verdict, line_verdict, phase_after, named, rows_fit, read_line}
 use Rattle.rules.proofs.Bools.{and_left, and_right, and_both, or_right, not_true, below_or}
@@ -156,7 +155,7 @@ literal_number (minus v) h s = (number_minus v h s, variable_minus v h s, litera
 
 -- what is read of a line that gives one literal
 abbrev one_read : Literal → Scan
-one_read l = record { verdict = Accepted; at = 2 + length (literal_text l) + 1; closed = false; named = l ∷ [] }
+one_read l = record { verdict = Ok tt; at = 2 + length (literal_text l) + 1; closed = false; named = l ∷ [] }
 
 scan_some : (N : ℕ) (given : List ℕ) (scan : Scan) (w : List ℕ) → 1 ≤ length w → scan_piece N given scan w ≡ scan_word N given scan w
 unfolding scan_piece
@@ -175,7 +174,7 @@ text_short (minus v) h = omega (arith, decimal_few 5 v h)
 
 module _ (N : ℕ) (rows : Rows) (l : Literal) (low : 1 ≤ variable_in l) (small : variable_in l < 10 ^ suc 5) (within : variable_in l ≤ N)
     (fresh : bit_of_variable rows.given (variable_in l) ≡ false) where
-  word_fine : judge (word_rules N rows.given scan_start (literal_text l)) ≡ Accepted
+  word_fine : judge (word_rules N rows.given scan_start (literal_text l)) ≡ Ok tt
   unfolding word_rules any
   word_fine =
       let w = literal_number l low small in
@@ -195,7 +194,7 @@ module _ (N : ℕ) (rows : Rows) (l : Literal) (low : 1 ≤ variable_in l) (smal
   -- the literal is stored, and nothing else happens
   pub read_literal : rows_fit N rows ≡ true
       → read_line (record { highest = N; phase = ModelOpen }) rows (literal_line l)
-      ≡ record { answer = LineAnswer.Next (record { highest = N; phase = ModelOpen }); rows = store rows l }
+      ≡ record { answer = Ok (record { highest = N; phase = ModelOpen }); rows = store rows l }
   unfolding read_line judge line_verdict kind_of kind_verdict phase_after named store_all
   read_literal fit =
       let parted : (eqb (length (literal_line l)) 1 || eqb (byte (literal_line l) 1) space) ≡ true = or_right (eqb (length (literal_line l)) 1) true refl in
@@ -205,12 +204,12 @@ module _ (N : ℕ) (rows : Rows) (l : Literal) (low : 1 ≤ variable_in l) (smal
 
 pub read_status : (N : ℕ) (rows : Rows) → rows_fit N rows ≡ true
     → read_line (record { highest = N; phase = NoStatus }) rows says_satisfiable
-    ≡ record { answer = LineAnswer.Next (record { highest = N; phase = ModelOpen }); rows = rows }
+    ≡ record { answer = Ok (record { highest = N; phase = ModelOpen }); rows = rows }
 unfolding read_line judge line_verdict kind_of kind_verdict phase_after named store_all says_satisfiable says_unsatisfiable says_unknown ascii is_status same agree phase_said
 read_status N rows fit = rw fit
 
 pub read_closing : (N : ℕ) (rows : Rows) → rows_fit N rows ≡ true
     → read_line (record { highest = N; phase = ModelOpen }) rows closing_line
-    ≡ record { answer = LineAnswer.Next (record { highest = N; phase = ModelClosed }); rows = rows }
+    ≡ record { answer = Ok (record { highest = N; phase = ModelClosed }); rows = rows }
 unfolding read_line judge line_verdict kind_of kind_verdict phase_after named store_all scan_line pieces scan_pieces scan_piece scan_word word_rules is_number reach first variable_of value_from
 read_closing N rows fit = rw (fit, leb-zero N)

@@ -7,7 +7,7 @@ use Prim.Native.Nat.{ℕ, suc, ◌-◌}
 use lib.ListN.{length, get_or, set, replicate, take}
 use Rattle.rules.specs.Counting.{sum_to, first, for_each, for_pairs, when, every, any, joined}
 use Rattle.rules.specs.Limits.{max_literals}
-use Rattle.rules.specs.Answers.{judge, answer_to}
+use Rattle.rules.specs.Answers.{judge, answer_to, Verdict}
 use Rattle.rules.specs.Task.{pair_at_fault, size_at_fault, start_at_fault, list_in_order, action_in_order, action_at_fault, task_rules}
 use Rattle.rules.specs.File.{task_of, body, contents_rules, row_at_fault, pairs_at, action_in, rests_up_to, rests, is_whole, file_rules}
 use Rattle.rules.specs.Problem.{Problem}
@@ -20,7 +20,6 @@ use Rattle.rules.specs.Walk.{start_state, holds, applies, set_pairs, apply, stat
 use Rattle.rules.specs.Readings.{value_bits, action_bits, assignment_of}
 use Rattle.rules.specs.Output.{model_rules, outcome}
 use Rattle.rules.specs.Calls.{problem_of, problem_rules, clause_rules, clause_verdict}
-use Rattle.rules.specs.declared.Verdict.{Verdict}
 use Rattle.rules.specs.declared.Phase.TheVariants.{ModelClosed}
 use Rattle.rules.proofs.Listed.{all_rows, in_order, good_schedules}
 

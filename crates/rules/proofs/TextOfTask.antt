@@ -1,6 +1,7 @@
 -- Each valid task has a text: told in the format, with any names, it is accepted and states that task. It is the plainest such text: all
 -- preconditions are prevail conditions, every old value is -1, and there is no mutex group.
 -- Assumes nothing.
+use Rattle.std.specs.Prelude.{Ok}
 use mathlib.Core.Path.{◌≡◌, refl, sym, ap, ◌∙◌}
 use mathlib.Core.Bool.{true, not}
 use mathlib.Core.List.{List, [], ◌∷◌, ◌++◌, foldl, map, append_assoc, append-nil}
@@ -19,7 +20,6 @@ use Rattle.rules.specs.Format.{Stated, nothing_stated, name, fact, put_in_order,
 use Rattle.rules.specs.Translation.{text_begun, shape_due, read_text_lines, read_text, end_of_reading, text_verdict, text_task, translation_verdict}
 use Rattle.rules.specs.declared.FormatLine.{FormatLine}
 use Rattle.rules.specs.declared.FormatLine.TheVariants.{BeginVersion, Version, EndVersion, BeginMetric, Metric, EndMetric, VariableCount, BeginVariable, VariableName, Range, AtomName, EndVariable, MutexGroupCount, BeginState, StateValue, EndState, BeginGoal, GoalCount, GoalFact, EndGoal, OperatorCount, BeginOperator, OperatorName, PrevailCount, PrevailCondition, EffectCount, Effect, Cost, EndOperator, AxiomCount, EndOfText}
-use Rattle.rules.specs.declared.Verdict.TheVariants.{Accepted}
 use Rattle.rules.proofs.Bools.{and_left, and_right, not_true}
 use Rattle.rules.proofs.Cut.{lines_ahead, ahead_first, ahead_none, ahead_lf, ahead_byte}
 use Rattle.rules.proofs.Valid.{InOrder, WellFormed, valid_well_formed}
@@ -398,11 +398,11 @@ module _ (names : Names) (T : Task) (v : Valid T) where
   unfolding text_task
   text_states = ap (λ r. r.stated.task) text_read
 
-  text_in_order : text_verdict (text_of names T) ≡ Accepted
+  text_in_order : text_verdict (text_of names T) ≡ Ok tt
   unfolding text_verdict end_of_reading shape_due judge
   text_in_order = rw text_read refl
 
   -- and is accepted in the room that its file needs
-  pub text_accepted : (room : ℕ) → length (file_of T) ≤ room → translation_verdict (text_of names T) room ≡ Accepted
+  pub text_accepted : (room : ℕ) → length (file_of T) ≤ room → translation_verdict (text_of names T) room ≡ Ok tt
   text_accepted room l =
       (accepted_exactly (text_of names T) room).1 (record { reads = text_in_order; valid = rw text_states v; fits = rw text_states l })

@@ -1,6 +1,7 @@
 -- What an accepted model may leave unnamed, for every valid task and every horizon: at a step without a move one action, which would change nothing there,
 -- and no value. So its completion is the model of the schedule that it states.
 -- Assumes nothing.
+use Rattle.std.specs.Prelude.{Ok}
 use mathlib.Core.Path.{◌≡◌, refl, sym, ap, ◌∙◌}
 use mathlib.Core.Logic.{⊎_elim}
 use mathlib.Core.Bool.{true, false}
@@ -20,7 +21,6 @@ use Rattle.rules.specs.Truth.{Model, literal_true, clause_true, satisfies, model
 use Rattle.rules.specs.Walk.{holds, applies, apply, entry, state_at}
 use Rattle.rules.specs.Readings.{true_action, entry_of, schedule_of, assignment_of}
 use Rattle.rules.specs.Output.{outcome}
-use Rattle.rules.specs.declared.Verdict.TheVariants.{Accepted}
 use Rattle.rules.specs.declared.Phase.{Phase}
 use Rattle.rules.proofs.Bools.{either, clash}
 use Rattle.rules.proofs.Counting.{first_none, every_by}
@@ -158,11 +158,11 @@ unnamed T valid k M sat =
     }
 
 -- it holds of every model that is accepted at the end of a reading
-pub accepted_unnamed : (T : Task) → Valid T → (k : ℕ) (phase : Phase) (rows : Rows) → outcome (problem T k) phase rows ≡ Accepted
+pub accepted_unnamed : (T : Task) → Valid T → (k : ℕ) (phase : Phase) (rows : Rows) → outcome (problem T k) phase rows ≡ Ok tt
     → Unnamed T k (model_in rows)
 accepted_unnamed T valid k phase rows h = unnamed T valid k (model_in rows) (accepted_holds (problem T k) rows phase h).all_true
 
 -- so in accepted rows every value at every step is given, and output that left one out is refused
-pub accepted_gives : (T : Task) → Valid T → (k : ℕ) (phase : Phase) (rows : Rows) → outcome (problem T k) phase rows ≡ Accepted
+pub accepted_gives : (T : Task) → Valid T → (k : ℕ) (phase : Phase) (rows : Rows) → outcome (problem T k) phase rows ≡ Ok tt
     → (s x v : ℕ) → AtValue (problem T k) s x v → bit_of_variable rows.given (value_number (problem T k) s x v) ≡ true
 accepted_gives T valid k phase rows h = (accepted_unnamed T valid k phase rows h).values_named

@@ -1,5 +1,6 @@
 -- A valid task in words: what refusals 3 to 7, none of which applies, say of each of its parts.
 -- Assumes nothing.
+use Rattle.std.specs.Prelude.{Ok}
 use mathlib.Core.Path.{◌≡◌, refl, ap}
 use mathlib.Core.Bool.{Bool, true, false, not, ◌&&◌}
 use mathlib.Core.List.{List}
@@ -11,7 +12,6 @@ use Rattle.rules.specs.Counting.{first}
 use Rattle.rules.specs.Limits.{max_variables, max_domain, max_values, max_goals, max_actions, max_pairs}
 use Rattle.rules.specs.Answers.{judge}
 use Rattle.rules.specs.Task.{Pair, Action, Task, n, d, S, A, start_value, pair, action, inside, rises, pair_at_fault, size_at_fault, start_at_fault, list_in_order, action_in_order, action_at_fault, task_rules, Valid}
-use Rattle.rules.specs.declared.Verdict.TheVariants.{Accepted}
 use Rattle.rules.proofs.Bools.{and_left, and_right, and_both, not_false}
 use Rattle.rules.proofs.Counting.{none_at, none_test}
 use Rattle.rules.proofs.Judging.{judge_head, judge_tail, judge_cons, judge_nil}
@@ -102,7 +102,7 @@ pub record Judged (goalIsWhole : Bool) (is_whole : ℕ → Bool) (T : Task) : Ty
   pub goal_whole : goalIsWhole ≡ true
   pub each_whole : (a : ℕ) → a < A T → is_whole a ≡ true
 
-pub accepted_judged : (g : Bool) (w : ℕ → Bool) (T : Task) → judge (task_rules g w T) ≡ Accepted → Judged g w T
+pub accepted_judged : (g : Bool) (w : ℕ → Bool) (T : Task) → judge (task_rules g w T) ≡ Ok tt → Judged g w T
 unfolding task_rules size_at_fault start_at_fault action_at_fault
 accepted_judged g w T h₃ =
     let h₄ = judge_tail _ _ h₃ in
@@ -138,7 +138,7 @@ accepted_judged g w T h₃ =
       each_whole = λ a l. and_left (w a) _ (each a l);
     }
 
-pub judged_accepted : (g : Bool) (w : ℕ → Bool) (T : Task) → Judged g w T → judge (task_rules g w T) ≡ Accepted
+pub judged_accepted : (g : Bool) (w : ℕ → Bool) (T : Task) → Judged g w T → judge (task_rules g w T) ≡ Ok tt
 unfolding task_rules size_at_fault start_at_fault action_at_fault
 judged_accepted g w T j =
     let t = j.well_formed in

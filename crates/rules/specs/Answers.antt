@@ -1,12 +1,18 @@
 -- Answers: the rules that a call judges by, in their order, and the number and detail of each refusal.
 -- Assumes nothing.
-use Rattle.std.specs.Prelude.{ℕ, Bool, cond, List, [], ◌∷◌, eqb}
+use Rattle.std.specs.Prelude.{ℕ, Bool, cond, List, [], ◌∷◌, eqb, Result, Ok, Err}
 use Rattle.rules.specs.Counting.{first}
 use Rattle.rules.specs.declared.Refusal.{Refusal}
 use Rattle.rules.specs.declared.Refusal.TheVariants.{FileLength, ContentsRow, BodyLength, DomainSize, StartValue, GoalPair, ActionAtFault, Horizon, ClauseNumber, Room, Grammar, OutOfPlace, OverN, GivenBefore, Unfinished, UnmetClause, Unsatisfiable, Unknown, EntryOverA, DoesNotApply, GoalUnmet, AgainstFormat, AxiomOrCondition, OtherVersion}
-use Rattle.rules.specs.declared.Verdict.{Verdict}
-use Rattle.rules.specs.declared.LineAnswer.{LineAnswer}
-use Rattle.rules.specs.declared.Verdict.TheVariants.{Accepted, Refused}
+use Rattle.rules.specs.declared.Reading.{Reading}
+
+-- the answer of a call that only judges
+abbrev pub Verdict : Type 0
+Verdict = Result Unit Refusal
+
+-- the answer to one line of solver output
+abbrev pub LineAnswer : Type 0
+LineAnswer = Result Reading Refusal
 
 -- an answer's number and detail
 pub record Answer : Type 0 where
@@ -45,13 +51,13 @@ answer_of (OtherVersion line) = answer 32 line
 
 -- 0 is acceptance, detail 0
 abbrev pub answer_to : Verdict → Answer
-answer_to Accepted = answer 0 0
-answer_to (Refused why) = answer_of why
+answer_to (Ok _) = answer 0 0
+answer_to (Err why) = answer_of why
 
 -- the next reading state is acceptance
 abbrev pub answer_to_line : LineAnswer → Answer
-answer_to_line (LineAnswer.Next reading) = answer 0 0
-answer_to_line (LineAnswer.Refused why) = answer_of why
+answer_to_line (Ok reading) = answer 0 0
+answer_to_line (Err why) = answer_of why
 
 -- what has to hold, and the refusal where it does not
 pub record Rule : Type 0 where
@@ -60,13 +66,13 @@ pub record Rule : Type 0 where
 
 -- the first rule that does not hold refuses
 unfoldable pub judge : List Rule → Verdict
-judge [] = Accepted
-judge (r ∷ rs) = cond r.holds (judge rs) (Refused r.refusal)
+judge [] = Ok tt
+judge (r ∷ rs) = cond r.holds (judge rs) (Err r.refusal)
 
 -- the second verdict where the first accepts
 abbrev pub in_turn : Verdict → Verdict → Verdict
-in_turn Accepted then = then
-in_turn (Refused why) then = Refused why
+in_turn (Ok _) then = then
+in_turn (Err why) then = Err why
 
 abbrev pub demand : Bool → Refusal → Rule
 demand holds refusal = record { holds = holds; refusal = refusal }

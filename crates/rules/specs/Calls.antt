@@ -1,9 +1,9 @@
 -- The calls: what each judges, in order, and what it leaves in lent memory. Refusals 1 to 10 come by number, then those of the call itself.
 -- Assumes nothing.
-use Rattle.std.specs.Prelude.{ℕ, suc, ◌-◌, cond, ◌&&◌, List, [], ◌∷◌, ◌++◌, map, leb, ltb, ℤ, length, take, drop}
+use Rattle.std.specs.Prelude.{ℕ, suc, ◌-◌, cond, ◌&&◌, List, [], ◌∷◌, ◌++◌, map, leb, ltb, ℤ, length, take, drop, Ok, Err}
 use Rattle.rules.specs.Counting.{joined}
 use Rattle.rules.specs.Limits.{max_horizon}
-use Rattle.rules.specs.Answers.{Rule, demand, judge, in_turn}
+use Rattle.rules.specs.Answers.{Rule, demand, judge, in_turn, Verdict}
 use Rattle.rules.specs.File.{task_of, file_rules}
 use Rattle.rules.specs.Problem.{Problem, problem}
 use Rattle.rules.specs.Numbering.{N}
@@ -16,10 +16,7 @@ use Rattle.rules.specs.Readings.{schedule_of, rows_of}
 use Rattle.rules.specs.Lines.{rows_fit, Progress}
 use Rattle.rules.specs.Output.{first_reading, cleared_rows, outcome}
 use Rattle.rules.specs.declared.Refusal.TheVariants.{Horizon, ClauseNumber, Room}
-use Rattle.rules.specs.declared.Verdict.{Verdict}
-use Rattle.rules.specs.declared.Verdict.TheVariants.{Accepted, Refused}
 use Rattle.rules.specs.declared.Phase.{Phase}
-use Rattle.rules.specs.declared.LineAnswer.{LineAnswer}
 
 -- the problem that a file states at a horizon
 unfoldable pub problem_of : List ℕ → ℕ → Problem
@@ -44,12 +41,12 @@ room_rule needed lent = demand (leb needed lent) Room ∷ []
 module _ {X : Type 0} where
   -- what is written stands first and behind it nothing changes; a refusal leaves all as found
   abbrev pub lent_after : Verdict → (written : List X) → (lent : List X) → List X
-  lent_after Accepted written lent = written ++ drop (length written) lent
-  lent_after (Refused why) written lent = lent
+  lent_after (Ok _) written lent = written ++ drop (length written) lent
+  lent_after (Err why) written lent = lent
 
 abbrev pub rows_after : Verdict → (written : Rows) → (lent : Rows) → Rows
-rows_after Accepted written lent = written
-rows_after (Refused why) written lent = lent
+rows_after (Ok _) written lent = written
+rows_after (Err why) written lent = lent
 
 -- ---- the formula
 
@@ -98,8 +95,8 @@ start_verdict file k rows = judge (problem_rules file k ++ (demand (rows_fit (N 
 
 -- the first reading state and cleared rows, or a refusal and the rows as found
 abbrev pub started_by : Verdict → Problem → Rows → Progress
-started_by Accepted P rows = record { answer = LineAnswer.Next (first_reading P); rows = cleared_rows P rows }
-started_by (Refused why) P rows = record { answer = LineAnswer.Refused why; rows = rows }
+started_by (Ok _) P rows = record { answer = Ok (first_reading P); rows = cleared_rows P rows }
+started_by (Err why) P rows = record { answer = Err why; rows = rows }
 
 unfoldable pub start_reading : List ℕ → ℕ → Rows → Progress
 start_reading file k rows = started_by (start_verdict file k rows) (problem_of file k) rows

@@ -1,13 +1,11 @@
 -- The task file: a table of contents and four bodies, the task that they state, and refusals 1 to 7.
 -- Assumes nothing.
-use Rattle.std.specs.Prelude.{ℕ, zero, suc, ◌+◌, ◌*◌, ◌/◌, ◌%◌, Bool, cond, not, ◌&&◌, ◌||◌, List, [], ◌∷◌, ◌++◌, map, leb, ltb, eqb, length, get_or, take, drop}
+use Rattle.std.specs.Prelude.{ℕ, zero, suc, ◌+◌, ◌*◌, ◌/◌, ◌%◌, Bool, cond, not, ◌&&◌, ◌||◌, List, [], ◌∷◌, ◌++◌, map, leb, ltb, eqb, length, get_or, take, drop, Ok, Err}
 use Rattle.rules.specs.Counting.{table, for_each, joined}
 use Rattle.rules.specs.Limits.{max_file, byte_values, number_bytes, contents_rows, contents_bytes, row_bytes, pair_bytes, count_bytes}
-use Rattle.rules.specs.Answers.{Rule, demand, none_at_fault, judge}
+use Rattle.rules.specs.Answers.{Rule, demand, none_at_fault, judge, Verdict}
 use Rattle.rules.specs.Task.{Pair, Action, Task, pair, action, A, task_rules}
 use Rattle.rules.specs.declared.Refusal.TheVariants.{FileLength, ContentsRow}
-use Rattle.rules.specs.declared.Verdict.{Verdict}
-use Rattle.rules.specs.declared.Verdict.TheVariants.{Accepted, Refused}
 
 -- the byte at place i; past the end it is 0
 abbrev pub byte : List ℕ → ℕ → ℕ
@@ -54,9 +52,9 @@ body file r = take (body_length file r) (drop (body_start file r) file)
 
 -- body number b, from 1; empty where the contents are refused or the file has no such body
 abbrev pub body_if_any : Verdict → List ℕ → ℕ → List ℕ
-body_if_any Accepted file zero = []
-body_if_any Accepted file (suc r) = cond (ltb r contents_rows) (body file r) []
-body_if_any (Refused why) file b = []
+body_if_any (Ok _) file zero = []
+body_if_any (Ok _) file (suc r) = cond (ltb r contents_rows) (body file r) []
+body_if_any (Err why) file b = []
 
 unfoldable pub body_asked : List ℕ → ℕ → List ℕ
 body_asked file b = body_if_any (contents_verdict file) file b

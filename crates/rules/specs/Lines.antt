@@ -1,22 +1,19 @@
 -- One line of solver output, without its LF: its verdict (refusals 11 to 14), the literals that it names, and the phase after it.
 -- Assumes nothing.
-use Rattle.std.specs.Prelude.{ℕ, suc, ◌+◌, ◌-◌, ◌*◌, min, max, Bool, true, false, cond, not, ◌&&◌, ◌||◌, leb, ltb, eqb, length, drop}
+use Rattle.std.specs.Prelude.{ℕ, suc, ◌+◌, ◌-◌, ◌*◌, min, max, Bool, true, false, cond, not, ◌&&◌, ◌||◌, leb, ltb, eqb, length, drop, Ok, Err}
 use Prim.Native.Char.{code}
 use mathlib.Core.List.{List, [], ◌∷◌, ◌++◌, foldl, tail}
 use Rattle.rules.specs.Counting.{first, any}
 use Rattle.rules.specs.Limits.{max_line, max_digits}
-use Rattle.rules.specs.Answers.{Rule, demand, judge, in_turn}
+use Rattle.rules.specs.Answers.{Rule, demand, judge, in_turn, Verdict, LineAnswer}
 use Rattle.rules.specs.File.{byte}
 use Rattle.rules.specs.Families.{Literal, plus, minus}
 use Rattle.rules.specs.Text.{ascii, space, dash, digit0}
 use Rattle.rules.specs.Rows.{Rows, bit_of_variable, store_all, words_for}
 use Rattle.rules.specs.declared.Refusal.TheVariants.{Room, Grammar, OutOfPlace, OverN, GivenBefore}
-use Rattle.rules.specs.declared.Verdict.{Verdict}
-use Rattle.rules.specs.declared.Verdict.TheVariants.{Accepted, Refused}
 use Rattle.rules.specs.declared.Phase.{Phase}
 use Rattle.rules.specs.declared.Phase.TheVariants.{NoStatus, ModelOpen, ModelClosed, SaidUnsatisfiable, SaidUnknown}
 use Rattle.rules.specs.declared.Reading.{Reading}
-use Rattle.rules.specs.declared.LineAnswer.{LineAnswer}
 
 -- ---- pieces
 
@@ -102,15 +99,15 @@ scan_piece highest given scan (b ∷ w) = scan_word highest given scan (b ∷ w)
 
 -- the leftmost fault ends the scan
 abbrev pub go_on : Verdict → Scan → Scan → Scan
-go_on Accepted next scan = next
-go_on (Refused why) next scan = scan
+go_on (Ok _) next scan = next
+go_on (Err why) next scan = scan
 
 unfoldable pub scan_pieces : (highest : ℕ) (given : List ℕ) → Scan → List (List ℕ) → Scan
 scan_pieces highest given scan ps = foldl (λ s p. go_on s.verdict (scan_piece highest given s p) s) scan ps
 
 -- behind the "v" and a space
 abbrev pub scan_start : Scan
-scan_start = record { verdict = Accepted; at = 2; closed = false; named = [] }
+scan_start = record { verdict = Ok tt; at = 2; closed = false; named = [] }
 
 -- the scan of a whole "v" line
 unfoldable pub scan_line : (highest : ℕ) (given : List ℕ) → List ℕ → Scan
@@ -180,7 +177,7 @@ kind_verdict numbers reading given line =
     in_turn
     (judge (demand (awaits_numbers reading.phase) (OutOfPlace 0) ∷ demand (eqb (length line) 1 || eqb (byte line 1) space) (Grammar 1) ∷ []))
     (scan_line reading.highest given line).verdict
-kind_verdict neither reading given line = Refused (Grammar 0)
+kind_verdict neither reading given line = Err (Grammar 0)
 
 -- the overlong case is first, then the leftmost fault
 unfoldable pub line_verdict : Reading → (given : List ℕ) → List ℕ → Verdict
@@ -210,8 +207,8 @@ unfoldable pub rows_fit : ℕ → Rows → Bool
 rows_fit m rows = leb (words_for m) (length rows.given) && leb (words_for m) (length rows.is_true)
 
 abbrev pub progress : Verdict → Reading → List Literal → Rows → Progress
-progress Accepted next ls rows = record { answer = LineAnswer.Next next; rows = store_all rows ls }
-progress (Refused why) next ls rows = record { answer = LineAnswer.Refused why; rows = rows }
+progress (Ok _) next ls rows = record { answer = Ok next; rows = store_all rows ls }
+progress (Err why) next ls rows = record { answer = Err why; rows = rows }
 
 unfoldable pub read_line : Reading → Rows → List ℕ → Progress
 read_line reading rows line =

@@ -1,8 +1,8 @@
 -- A whole solver output: its bytes cut at LF and read line by line, how a reading starts, and how it ends (refusals 15 to 19).
 -- Assumes nothing.
-use Rattle.std.specs.Prelude.{ℕ, not, replicate}
+use Rattle.std.specs.Prelude.{ℕ, not, replicate, Ok, Err}
 use mathlib.Core.List.{List, [], ◌∷◌, foldl}
-use Rattle.rules.specs.Answers.{Rule, none_at_fault, judge, in_turn}
+use Rattle.rules.specs.Answers.{Rule, none_at_fault, judge, in_turn, Verdict, LineAnswer}
 use Rattle.rules.specs.Problem.{Problem}
 use Rattle.rules.specs.Numbering.{N}
 use Rattle.rules.specs.Families.{C, clause}
@@ -11,12 +11,9 @@ use Rattle.rules.specs.Rows.{Rows, words_for, over_row}
 use Rattle.rules.specs.Truth.{clause_true, model_in}
 use Rattle.rules.specs.Lines.{pieces, Progress, read_line}
 use Rattle.rules.specs.declared.Refusal.TheVariants.{Unfinished, UnmetClause, Unsatisfiable, Unknown}
-use Rattle.rules.specs.declared.Verdict.{Verdict}
 use Rattle.rules.specs.declared.Phase.{Phase}
 use Rattle.rules.specs.declared.Phase.TheVariants.{NoStatus, ModelOpen, ModelClosed, SaidUnsatisfiable, SaidUnknown}
 use Rattle.rules.specs.declared.Reading.{Reading}
-use Rattle.rules.specs.declared.LineAnswer.{LineAnswer}
-use Rattle.rules.specs.declared.LineAnswer.TheVariants.{Next, Refused}
 
 -- ---- the start
 
@@ -45,11 +42,11 @@ lines_of bytes = without_empty_last (pieces lf bytes)
 
 -- the first refused line ends the reading
 abbrev pub read_on : LineAnswer → Rows → List ℕ → Progress
-read_on (Next reading) rows line = read_line reading rows line
-read_on (Refused why) rows line = record { answer = Refused why; rows = rows }
+read_on (Ok reading) rows line = read_line reading rows line
+read_on (Err why) rows line = record { answer = Err why; rows = rows }
 
 unfoldable pub read_lines : Reading → Rows → List (List ℕ) → Progress
-read_lines reading rows lines = foldl (λ p line. read_on p.answer p.rows line) (record { answer = Next reading; rows = rows }) lines
+read_lines reading rows lines = foldl (λ p line. read_on p.answer p.rows line) (record { answer = Ok reading; rows = rows }) lines
 
 unfoldable pub read_output : Reading → Rows → List ℕ → Progress
 read_output reading rows bytes = read_lines reading rows (lines_of bytes)
@@ -58,11 +55,11 @@ read_output reading rows bytes = read_lines reading rows (lines_of bytes)
 
 -- what the status alone decides: no status, 18, 19, not closed
 abbrev pub ending : Phase → Verdict
-ending NoStatus = Verdict.Refused Unfinished
-ending SaidUnsatisfiable = Verdict.Refused Unsatisfiable
-ending SaidUnknown = Verdict.Refused Unknown
-ending ModelOpen = Verdict.Refused Unfinished
-ending ModelClosed = Verdict.Accepted
+ending NoStatus = Err Unfinished
+ending SaidUnsatisfiable = Err Unsatisfiable
+ending SaidUnknown = Err Unknown
+ending ModelOpen = Err Unfinished
+ending ModelClosed = Ok tt
 
 -- 17: a clause has no true literal among those named
 unfoldable pub model_rules : Problem → Rows → List Rule

@@ -1,6 +1,6 @@
 -- The two programs: what each prints for any input.
 -- Assumes nothing.
-use Rattle.std.specs.Prelude.{ℕ, ◌+◌, List, [], ◌∷◌, ◌++◌, map, take, drop, replicate}
+use Rattle.std.specs.Prelude.{ℕ, ◌+◌, List, [], ◌∷◌, ◌++◌, map, take, drop, replicate, Ok, Err}
 use Rattle.rules.specs.Counting.{joined}
 use Rattle.rules.specs.File.{byte, word16}
 use Rattle.rules.specs.Text.{decimal, lf, formula_text, refusal_line}
@@ -12,14 +12,12 @@ use Rattle.rules.specs.Readings.{schedule_of}
 use Rattle.rules.specs.Lines.{Progress}
 use Rattle.rules.specs.Output.{first_reading, read_output, outcome}
 use Rattle.rules.specs.Calls.{problem_of, problem_verdict}
-use Rattle.rules.specs.declared.Verdict.{Verdict}
-use Rattle.rules.specs.declared.Verdict.TheVariants.{Accepted, Refused}
-use Rattle.rules.specs.declared.LineAnswer.{LineAnswer}
+use Rattle.rules.specs.Answers.{Verdict, LineAnswer}
 
 -- on a refusal a program prints only its line
 abbrev pub printed : Verdict → List ℕ → List ℕ
-printed Accepted text = text
-printed (Refused why) text = refusal_line why
+printed (Ok _) text = text
+printed (Err why) text = refusal_line why
 
 -- a horizon byte, then the file; a missing byte reads as 0
 unfoldable pub clauses_output : List ℕ → List ℕ
@@ -35,8 +33,8 @@ fresh_rows P = record { given = replicate (words_for (N P)) 0; is_true = replica
 
 -- what is printed once all lines are read
 abbrev pub model_text : Problem → LineAnswer → Rows → List ℕ
-model_text P (LineAnswer.Next reading) rows = printed (outcome P reading.phase rows) (schedule_text (schedule_of P (model_in rows)))
-model_text P (LineAnswer.Refused why) rows = refusal_line why
+model_text P (Ok reading) rows = printed (outcome P reading.phase rows) (schedule_text (schedule_of P (model_in rows)))
+model_text P (Err why) rows = refusal_line why
 
 abbrev pub after_lines : Problem → Progress → List ℕ
 after_lines P progress = model_text P progress.answer progress.rows

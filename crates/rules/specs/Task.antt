@@ -1,11 +1,10 @@
 -- A task: variables with their domains, a start, a goal and actions, and what is at fault in one (refusals 3 to 7).
 -- Assumes nothing.
-use Rattle.std.specs.Prelude.{ℕ, zero, suc, min, Bool, true, not, ◌&&◌, ◌≡◌, List, [], ◌∷◌, leb, ltb, eqb, length, get_or}
+use Rattle.std.specs.Prelude.{ℕ, zero, suc, min, Bool, true, not, ◌&&◌, ◌≡◌, List, [], ◌∷◌, leb, ltb, eqb, length, get_or, Ok}
 use Rattle.rules.specs.Counting.{sum_to, first}
 use Rattle.rules.specs.Limits.{max_variables, max_domain, max_values, max_goals, max_actions, max_pairs}
 use Rattle.rules.specs.Answers.{Rule, demand, none_at_fault, judge}
 use Rattle.rules.specs.declared.Refusal.TheVariants.{BodyLength, DomainSize, StartValue, GoalPair, ActionAtFault}
-use Rattle.rules.specs.declared.Verdict.TheVariants.{Accepted}
 
 pub record Pair : Type 0 where
   pub variable : ℕ
@@ -93,4 +92,4 @@ task_rules goalIsWhole is_whole T =
 
 -- a valid task: none of the refusals 3 to 7 applies to it
 abbrev pub Valid : Task → Type 0
-Valid T = judge (task_rules true (λ a. true) T) ≡ Accepted
+Valid T = judge (task_rules true (λ a. true) T) ≡ Ok tt

@@ -1,10 +1,10 @@
 -- The translation of the translator's text: the reading of its lines (refusals 30 to 32), the task that they state, judged before any number is
 -- made a byte (3 to 7), and its task file in lent room (10).
 -- Assumes nothing.
-use Rattle.std.specs.Prelude.{ℕ, suc, Bool, true, false, length, get_or}
+use Rattle.std.specs.Prelude.{ℕ, suc, Bool, true, false, length, get_or, Ok, Err}
 use mathlib.Core.List.{List, [], ◌∷◌, ◌++◌, foldl, tail}
 use Rattle.rules.specs.Limits.{max_file}
-use Rattle.rules.specs.Answers.{demand, judge, in_turn}
+use Rattle.rules.specs.Answers.{demand, judge, in_turn, Verdict}
 use Rattle.rules.specs.Task.{Task, task_rules}
 use Rattle.rules.specs.File.{file_of}
 use Rattle.rules.specs.Output.{lines_of}
@@ -14,8 +14,6 @@ use Rattle.rules.specs.Format.{Stated, nothing_stated, Shape, keyword, name, ver
 use Rattle.rules.specs.declared.Refusal.TheVariants.{AgainstFormat}
 use Rattle.rules.specs.declared.FormatLine.{FormatLine}
 use Rattle.rules.specs.declared.FormatLine.TheVariants.{EndOfText}
-use Rattle.rules.specs.declared.Verdict.{Verdict}
-use Rattle.rules.specs.declared.Verdict.TheVariants.{Accepted, Refused}
 
 -- how many lines have been read, which are due, and what has been stated
 pub record TextReading : Type 0 where
@@ -25,7 +23,7 @@ pub record TextReading : Type 0 where
   pub stated : Stated
 
 abbrev pub text_begun : TextReading
-text_begun = record { verdict = Accepted; lines = 0; due = first_lines; stated = nothing_stated }
+text_begun = record { verdict = Ok tt; lines = 0; due = first_lines; stated = nothing_stated }
 
 -- the shape of the next line
 unfoldable pub shape_due : TextReading → Shape
@@ -33,23 +31,23 @@ shape_due reading = shape_of (get_or reading.due 0 EndOfText)
 
 -- a line in order is read; one at fault ends the reading
 abbrev pub line_read : Verdict → Shape → TextReading → List ℕ → TextReading
-line_read Accepted shape reading line =
+line_read (Ok _) shape reading line =
     record {
-      verdict = Accepted;
+      verdict = Ok tt;
       lines = suc reading.lines;
       due = lines_announced shape line ++ tail reading.due;
       stated = stated shape line reading.stated;
     }
-line_read (Refused why) shape reading line =
-    record { verdict = Refused why; lines = reading.lines; due = reading.due; stated = reading.stated }
+line_read (Err why) shape reading line =
+    record { verdict = Err why; lines = reading.lines; due = reading.due; stated = reading.stated }
 
 unfoldable pub read_text_line : TextReading → List ℕ → TextReading
 read_text_line reading line = line_read (judge (line_rules (shape_due reading) (suc reading.lines) line)) (shape_due reading) reading line
 
 -- the first line at fault decides
 abbrev pub read_further : Verdict → TextReading → List ℕ → TextReading
-read_further Accepted reading line = read_text_line reading line
-read_further (Refused why) reading line = reading
+read_further (Ok _) reading line = read_text_line reading line
+read_further (Err why) reading line = reading
 
 unfoldable pub read_text_lines : TextReading → List (List ℕ) → TextReading
 read_text_lines reading lines = foldl (λ r line. read_further r.verdict r line) reading lines

@@ -30,13 +30,6 @@ pub enum Refusal {
     OtherVersion(usize),
 }
 
-// The answer of a call that only judges.
-#[derive(Clone, Copy)]
-pub enum Verdict {
-    Accepted,
-    Refused(Refusal),
-}
-
 // How far a solver's output has been read: no status yet, SATISFIABLE with its model open or closed, or one of the two other statuses.
 #[derive(Clone, Copy)]
 pub enum Phase {
@@ -52,13 +45,6 @@ pub enum Phase {
 pub struct Reading {
     pub highest: usize,
     pub phase: Phase,
-}
-
-// The answer to one line of solver output.
-#[derive(Clone, Copy)]
-pub enum LineAnswer {
-    Next(Reading),
-    Refused(Refusal),
 }
 
 // The lines of the translator's text by what they say, in the format's own order.

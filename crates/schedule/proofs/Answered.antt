@@ -2,6 +2,7 @@
 -- the horizon are accepted and enough is lent; and then both rows are the model's. And the half of demand 3 that is about these rows: they make every
 -- clause true and state the schedule again.
 -- Assumes nothing.
+use Rattle.std.specs.Prelude.{Ok}
 use mathlib.Core.Path.{◌≡◌, sym, ap, ◌∙◌}
 use mathlib.Core.Logic.{◌↔◌}
 use mathlib.Core.Bool.{true, ◌&&◌}
@@ -10,7 +11,7 @@ use Prim.Native.Nat.{ℕ, ◌≤◌}
 use borrow.Author.Tests.{leb-true, le-leb}
 use lib.Dec.{leb}
 use lib.ListN.{length, take}
-use Rattle.rules.specs.Answers.{Rule, demand, judge}
+use Rattle.rules.specs.Answers.{Rule, demand, judge, Verdict}
 use Rattle.rules.specs.Numbering.{N}
 use Rattle.rules.specs.Problem.{Problem}
 use Rattle.rules.specs.File.{task_of, file_rules, file_verdict}
@@ -21,8 +22,6 @@ use Rattle.rules.specs.Walk.{CarriedOut, schedule_rules}
 use Rattle.rules.specs.Readings.{schedule_of, rows_of}
 use Rattle.rules.specs.Calls.{problem_of, problem_rules, problem_verdict, back_verdict, back_rows}
 use Rattle.rules.specs.declared.Refusal.TheVariants.{Room}
-use Rattle.rules.specs.declared.Verdict.{Verdict}
-use Rattle.rules.specs.declared.Verdict.TheVariants.{Accepted}
 use Rattle.rules.proofs.Bools.{and_left, and_right, and_both}
 use Rattle.rules.proofs.Judging.{judge_nil, judge_head, judge_cons, judge_append, in_turn-left, in_turn-right, in_turn-both}
 use Rattle.rules.proofs.Valid.{WellFormed}
@@ -36,7 +35,7 @@ use Rattle.schedule.proofs.way_back.Reads as way_back
 
 module _ (file : List ℕ) (k : ℕ) (entries : List ℕ) (rows : Rows) where
   pub record BecomesModel : Type 0 where
-    pub problem_stands : problem_verdict file k ≡ Accepted
+    pub problem_stands : problem_verdict file k ≡ Ok tt
     pub rows_there : rows_fit (N (problem_of file k)) rows ≡ true
     pub entries_there : k ≤ length entries
     pub carried : CarriedOut (task_of file) k entries
@@ -48,7 +47,7 @@ module _ (file : List ℕ) (k : ℕ) (entries : List ℕ) (rows : Rows) where
   unfolding problem_verdict problem_rules file_verdict
   well b = accepted_well_formed file (in_turn-left (judge (file_rules file)) _ (sym (judge_append (file_rules file) _) ∙ b.problem_stands))
 
-  becomes : back_verdict file k entries rows ≡ Accepted → BecomesModel
+  becomes : back_verdict file k entries rows ≡ Ok tt → BecomesModel
   unfolding back_verdict problem_verdict
   becomes h =
       let rules : List Rule = problem_rules file k ++ room in
@@ -62,7 +61,7 @@ module _ (file : List ℕ) (k : ℕ) (entries : List ℕ) (rows : Rows) where
         carried = carried_out (task_of file) k entries (in_turn-right (judge rules) _ all);
       }
 
-  accepted : BecomesModel → back_verdict file k entries rows ≡ Accepted
+  accepted : BecomesModel → back_verdict file k entries rows ≡ Ok tt
   unfolding back_verdict problem_verdict
   accepted b =
       judge_append (problem_rules file k ++ room) (schedule_rules (task_of file) k entries)
@@ -81,7 +80,7 @@ module _ (file : List ℕ) (k : ℕ) (entries : List ℕ) (rows : Rows) where
   unfolding problem_of
   schedule_back b = schedule_again (task_of file) (well b) k entries rows b.entries_there b.carried
 
-  left : back_verdict file k entries rows ≡ Accepted → back_rows file k entries rows ≡ rows_of (problem_of file k) entries rows
+  left : back_verdict file k entries rows ≡ Ok tt → back_rows file k entries rows ≡ rows_of (problem_of file k) entries rows
   unfolding back_rows
   left h = rw h
 
@@ -89,13 +88,13 @@ module _ (κs : _) (a : _) (r : Verdict) (x : _) (promised : way_back.Post κs a
   abbrev rows : Rows
   rows = lent a.1.1.1.0.now a.1.1.1.1.0.now
 
-  pub accepts_exactly : (r ≡ Accepted) ↔ BecomesModel a.0.now a.1.0 a.1.1.0.now rows
+  pub accepts_exactly : (r ≡ Ok tt) ↔ BecomesModel a.0.now a.1.0 a.1.1.0.now rows
   accepts_exactly = (
     λ e. becomes a.0.now a.1.0 a.1.1.0.now rows (sym promised.0 ∙ e),
     λ b. promised.0 ∙ accepted a.0.now a.1.0 a.1.1.0.now rows b,
   )
 
-  module _ (e : r ≡ Accepted) where
+  module _ (e : r ≡ Ok tt) where
     abbrev P : Problem
     P = problem_of a.0.now a.1.0
 

@@ -1,5 +1,6 @@
 -- The ways out of the way back: refusals leave both rows as found, acceptance writes both.
 -- Assumes nothing.
+use Rattle.std.specs.Prelude.{Ok, Err}
 use mathlib.Core.Path.{◌≡◌, refl, sym, ap, ◌∙◌}
 use mathlib.Core.Bool.{Bool, true, false, not, ◌&&◌}
 use mathlib.Core.List.{List, [], ◌∷◌, ◌++◌, append_assoc}
@@ -8,7 +9,7 @@ use borrow.Author.Tests.{le-leb, lt-leb, leb-true}
 use lib.Dec.{leb}
 use lib.ListN.{length, replicate}
 use Rattle.rules.specs.Limits.{max_horizon}
-use Rattle.rules.specs.Answers.{Rule, demand, judge, in_turn}
+use Rattle.rules.specs.Answers.{Rule, demand, judge, in_turn, Verdict}
 use Rattle.rules.specs.Task.{Task}
 use Rattle.rules.specs.Numbering.{N}
 use Rattle.rules.specs.File.{task_of, file_verdict}
@@ -19,8 +20,6 @@ use Rattle.rules.specs.Readings.{assignment_of, rows_of}
 use Rattle.rules.specs.Calls.{problem_of, problem_rules, problem_verdict, back_verdict, back_rows}
 use Rattle.rules.specs.declared.Refusal.{Refusal}
 use Rattle.rules.specs.declared.Refusal.TheVariants.{Room}
-use Rattle.rules.specs.declared.Verdict.{Verdict}
-use Rattle.rules.specs.declared.Verdict.TheVariants.{Accepted, Refused}
 use Rattle.rules.proofs.Bools.{and_left, and_right, not_true, not_false}
 use Rattle.rules.proofs.Judging.{judge_refused, judge_passed, judge_append}
 use Rattle.rules.proofs.Files.{accepted_well_formed}
@@ -62,14 +61,14 @@ module _ (file : List ℕ) (k : ℕ) (entries : List ℕ) (room : Bool) where
       ∙ judge_append (problem_rules file k) room_rules
       ∙ ap (λ u. in_turn u (judge room_rules)) (sym e)
 
-  problem_refuses : (v : Verdict) (why : Refusal) → v ≡ problem_verdict file k → v ≡ Refused why → v ≡ in_order
+  problem_refuses : (v : Verdict) (why : Refusal) → v ≡ problem_verdict file k → v ≡ Err why → v ≡ in_order
   problem_refuses v why e f = f ∙ sym (in_turn_lem v e ∙ ap (λ u. in_turn u (judge room_rules)) f)
 
-  module _ (v : Verdict) (e : v ≡ problem_verdict file k) (f : v ≡ Accepted) where
+  module _ (v : Verdict) (e : v ≡ problem_verdict file k) (f : v ≡ Ok tt) where
     from_room : in_order ≡ judge room_rules
     from_room = in_turn_lem v e ∙ ap (λ u. in_turn u (judge room_rules)) f
 
-    room_refuses : room ≡ false → Refused Room ≡ in_order
+    room_refuses : room ≡ false → Err Room ≡ in_order
     room_refuses h = sym (from_room ∙ judge_refused _ _ h)
 
     schedule_judges : room ≡ true → (w : Verdict) → w ≡ judge (schedule_rules (task_of file) k entries) → w ≡ in_order
@@ -78,12 +77,12 @@ module _ (file : List ℕ) (k : ℕ) (entries : List ℕ) (room : Bool) where
 -- ---- a schedule without rows
 
 module _ (file : List ℕ) (k : ℕ) (entries : List ℕ) (v : Verdict) (e : v ≡ problem_verdict file k) where
-  pub checked_problem : (why : Refusal) → v ≡ Refused why → v ≡ checked_verdict file k entries
+  pub checked_problem : (why : Refusal) → v ≡ Err why → v ≡ checked_verdict file k entries
   unfolding checked_verdict
   checked_problem why f = problem_refuses file k entries (leb k (length entries)) v why e f
 
-  module _ (f : v ≡ Accepted) where
-    pub checked_room : length entries < k → Refused Room ≡ checked_verdict file k entries
+  module _ (f : v ≡ Ok tt) where
+    pub checked_room : length entries < k → Err Room ≡ checked_verdict file k entries
     unfolding checked_verdict
     checked_room l = room_refuses file k entries (leb k (length entries)) v e f (lt-leb k (length entries) l)
 
@@ -101,22 +100,22 @@ module _ (file : List ℕ) (k : ℕ) (entries given truth : List ℕ) where
   room = rows_fit (N (problem_of file k)) (lent given truth) && leb k (length entries)
 
   -- a refusal leaves both rows as found
-  refused_by : (why : Refusal) → Refused why ≡ verdict → (Refused why ≡ verdict) × (lent given truth ≡ back_rows file k entries (lent given truth))
+  refused_by : (why : Refusal) → Err why ≡ verdict → (Err why ≡ verdict) × (lent given truth ≡ back_rows file k entries (lent given truth))
   unfolding back_rows
   refused_by why e = (e, rw (← e))
 
-  pub problem_wrong : (v : Verdict) (why : Refusal) → v ≡ problem_verdict file k → v ≡ Refused why
-      → (v ≡ verdict) × (lent given truth ≡ back_rows file k entries (lent given truth))
+  pub problem_wrong : (v : Verdict) (why : Refusal) → v ≡ problem_verdict file k → v ≡ Err why
+      → (Err why ≡ verdict) × (lent given truth ≡ back_rows file k entries (lent given truth))
   unfolding back_verdict
-  problem_wrong v why e f = rw f (refused_by why (sym f ∙ problem_refuses file k entries room v why e f))
+  problem_wrong v why e f = (refused_by why (sym f ∙ problem_refuses file k entries room v why e f))
 
-  module _ (ok : file_verdict file ≡ Accepted) (hk : k ≤ max_horizon) (b : Bool)
+  module _ (ok : file_verdict file ≡ Ok tt) (hk : k ≤ max_horizon) (b : Bool)
       (eb : b ≡ fits (words_for (N (problem_of file k))) (length given) (length truth) k (length entries)) where
     is_room : room ≡ b
     unfolding rows_fit fits
     is_room = sym eb
 
-    pub too_little : not b ≡ true → (Refused Room ≡ verdict) × (lent given truth ≡ back_rows file k entries (lent given truth))
+    pub too_little : not b ≡ true → (Err Room ≡ verdict) × (lent given truth ≡ back_rows file k entries (lent given truth))
     unfolding back_verdict
     too_little f = refused_by Room (room_refuses file k entries room (problem_verdict file k) refl (problem_accepted file k ok hk) (is_room ∙ not_true b f))
 
@@ -125,15 +124,15 @@ module _ (file : List ℕ) (k : ℕ) (entries given truth : List ℕ) where
       unfolding back_verdict
       judged = schedule_judges file k entries room (problem_verdict file k) refl (problem_accepted file k ok hk) (is_room ∙ not_false b fb) v ev
 
-      pub schedule_wrong : (why : Refusal) → v ≡ Refused why → (v ≡ verdict) × (lent given truth ≡ back_rows file k entries (lent given truth))
-      schedule_wrong why f = rw f (refused_by why (sym f ∙ judged))
+      pub schedule_wrong : (why : Refusal) → v ≡ Err why → (Err why ≡ verdict) × (lent given truth ≡ back_rows file k entries (lent given truth))
+      schedule_wrong why f = (refused_by why (sym f ∙ judged))
 
-      pub schedule_right : (given' truth' : List ℕ) → v ≡ Accepted → given' ≡ over_row (packed (replicate (N (problem_of file k)) true)) given
+      pub schedule_right : (given' truth' : List ℕ) → v ≡ Ok tt → given' ≡ over_row (packed (replicate (N (problem_of file k)) true)) given
           → truth' ≡ over_row (packed (assignment_of (problem_of file k) entries)) truth
-          → (Accepted ≡ verdict) × (lent given' truth' ≡ back_rows file k entries (lent given truth))
+          → (Ok tt ≡ verdict) × (lent given' truth' ≡ back_rows file k entries (lent given truth))
       unfolding back_rows rows_of
       schedule_right given' truth' f eg et =
-          let e : verdict ≡ Accepted = sym judged ∙ f in
+          let e : verdict ≡ Ok tt = sym judged ∙ f in
           (sym e, rw (e, eg, et))
 
 -- ---- what fits
@@ -156,5 +155,5 @@ module _ (words given truth k entries : ℕ) where
     pub entries_fit : k ≤ entries
     entries_fit = leb-true k entries (and_right (leb words given && leb words truth) _ each)
 
-pub can_be_carried : (T : Task) (k : ℕ) (entries : List ℕ) (v : Verdict) → v ≡ judge (schedule_rules T k entries) → v ≡ Accepted → CarriedOut T k entries
+pub can_be_carried : (T : Task) (k : ℕ) (entries : List ℕ) (v : Verdict) → v ≡ judge (schedule_rules T k entries) → v ≡ Ok tt → CarriedOut T k entries
 can_be_carried T k entries v ev f = carried_out T k entries (sym ev ∙ f)

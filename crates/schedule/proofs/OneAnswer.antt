@@ -1,7 +1,7 @@
 -- Any two answers that a promise allows are equal, lent rows after the call included.
 -- Assumes nothing.
 use mathlib.Core.Path.{◌≡◌, sym, ap, ◌∙◌}
-use Rattle.rules.specs.declared.Verdict.{Verdict}
+use Rattle.rules.specs.Answers.{Verdict}
 use Rattle.schedule.specs.Written.{lent}
 use Rattle.schedule.proofs.schedule_checked.Reads as schedule-checked
 use Rattle.schedule.proofs.way_back.Reads as way_back

@@ -9,7 +9,7 @@ use native.Mathlib.Numerals.{add-one}
 use borrow.Author.Tests.{ltb-false, lt-ltb, le-ltb}
 use lib.ListN.{length, get_or, take, drop, length-drop}
 use lib.Seq.{take_all, drop-drop, length-take-le}
-use Rattle.std.specs.Prelude.{Option, None, Some}
+use Rattle.std.specs.Prelude.{Option, None, Some, Ok, Err}
 use Rattle.std.specs.Option.{MatchOption, unwrap_or}
 use Rattle.std.specs.List.{AllWithin, HoldsAt}
 use Rattle.std.proofs.lemmas.List.{get_or-take}
@@ -20,7 +20,6 @@ use Rattle.rules.specs.Task.{Task, A, pair, action}
 use Rattle.rules.specs.File.{body_start, body_length, body, rests, action_in, task_of, file_verdict}
 use Rattle.rules.specs.Walk.{State, start_state, holds, set_pairs, entry, entry_applies, after_entry, state_at, schedule_rules}
 use Rattle.rules.specs.declared.Refusal.TheVariants.{EntryOverA, DoesNotApply, GoalUnmet}
-use Rattle.rules.specs.declared.Verdict.TheVariants.{Accepted, Refused}
 use Rattle.rules.proofs.Counting.{first_le, first_before, first_none, first_is}
 use Rattle.rules.proofs.Judging.{judge_nil}
 use Rattle.rules.proofs.Loops.{none_yet, none_more, found_at, none_at_all, judge_found, judge_none}
@@ -36,7 +35,7 @@ use Rattle.walk.proofs.Tasks.{start_is, applies_is, moved_is, unmet_is}
 
 -- ---- parts of an accepted file
 
-module _ (file : List ℕ) (ok : file_verdict file ≡ Accepted) where
+module _ (file : List ℕ) (ok : file_verdict file ≡ Ok tt) where
   contents : Contents file
   contents = (accepted_file file ok).contents
 
@@ -66,7 +65,7 @@ module _ (file : List ℕ) (ok : file_verdict file ≡ Accepted) where
         ∙ sym (take_all (length file - p) (drop p file) (omega (arith, length-drop p file))))
 
 -- what an accepted file's task starts from
-pub started : (file part : Bor (List ℕ)) (from : ℕ) (values : List ℕ) → file_verdict file.now ≡ Accepted
+pub started : (file part : Bor (List ℕ)) (from : ℕ) (values : List ℕ) → file_verdict file.now ≡ Ok tt
     → Stretch file part from (body file.now 1) → values ≡ start_values part.now → values ≡ start_state (task_of file.now)
 unfolding task_of
 started file part from values ok r e =
@@ -141,10 +140,10 @@ module _ (T : Task) (entries : List ℕ) where
     is_f : f ≡ first k (over entries (A T))
     is_f = rw em at ef
 
-    pub over_refused : f < k → Refused (EntryOverA (f + 1)) ≡ judge (schedule_rules T k entries)
+    pub over_refused : f < k → Err (EntryOverA (f + 1)) ≡ judge (schedule_rules T k entries)
     unfolding schedule_rules over
     over_refused l =
-        ap (λ i. Refused (EntryOverA i)) (add-one f) ∙ sym (judge_found k (over entries (A T)) (λ s. EntryOverA (suc s)) _ f l is_f)
+        ap (λ i. Err (EntryOverA i)) (add-one f) ∙ sym (judge_found k (over entries (A T)) (λ s. EntryOverA (suc s)) _ f l is_f)
 
     module _ (kf : k ≤ f) where
       none_over : first k (over entries (A T)) ≡ k
@@ -159,10 +158,10 @@ module _ (T : Task) (entries : List ℕ) where
       from_steps = judge_none k (over entries (A T)) (λ s. EntryOverA (suc s)) _ none_over
 
       pub stuck_refused : (s e : ℕ) (σ : State) (b : Bool) → CameTo s σ → s < k → e ≡ entry entries s → b ≡ entry_applies T e σ → not b ≡ true
-          → Refused (DoesNotApply (s + 1)) ≡ judge (schedule_rules T k entries)
+          → Err (DoesNotApply (s + 1)) ≡ judge (schedule_rules T k entries)
       unfolding schedule_rules
       stuck_refused s e σ b c l ee eb t =
-          ap (λ i. Refused (DoesNotApply i)) (add-one s)
+          ap (λ i. Err (DoesNotApply i)) (add-one s)
           ∙ sym (from_steps
           ∙ judge_found k stuck (λ s. DoesNotApply (suc s)) _ s l
           (found_at stuck k s (not b) c.none_stuck l (ap not (rw (ee, c.state_is) at eb)) t))
@@ -184,11 +183,11 @@ module _ (T : Task) (entries : List ℕ) where
             let e : s ≡ k = omega arith in
             ei ∙ ap (λ τ. first_unmet τ (goal_in goal)) (c.state_is ∙ ap (state_at T entries) e) ∙ unmet_is T (state_at T entries k) goal eg
 
-        pub goal_refused : (m : ℕ) → m ≡ length T.goal → i < m → Refused (GoalUnmet i) ≡ judge (schedule_rules T k entries)
+        pub goal_refused : (m : ℕ) → m ≡ length T.goal → i < m → Err (GoalUnmet i) ≡ judge (schedule_rules T k entries)
         unfolding schedule_rules unmet
         goal_refused m em l = sym (from_goal ∙ judge_found (length T.goal) unmet GoalUnmet _ i (omega arith) is_i)
 
-        pub goal_met : (m : ℕ) → m ≡ length T.goal → m ≤ i → Accepted ≡ judge (schedule_rules T k entries)
+        pub goal_met : (m : ℕ) → m ≡ length T.goal → m ≤ i → Ok tt ≡ judge (schedule_rules T k entries)
         unfolding schedule_rules unmet
         goal_met m em l =
             sym (from_goal

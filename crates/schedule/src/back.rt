@@ -13,7 +13,7 @@ ghost use Rattle.schedule.specs.Written.{lent, fits};
 use crate::walking::schedule_verdict;
 use crate::writing::{set_all, set_true};
 use rows::{clear, words_for};
-use rules::{Refusal, Verdict};
+use rules::Refusal;
 use task::problem::count_variables;
 
 // The words that N bits need.
@@ -68,7 +68,7 @@ pub(crate) fn way_back_of(
     entries: &[u32],
     given: &mut [u64],
     truth: &mut [u64],
-) -> Verdict
+) -> Result<(), Refusal>
     requires { Indexed file.now index.now × (horizon ≤ max_horizon) }
     ensures { (result ≡ back_verdict file.now horizon entries.now (lent given.old truth.old))
         × (lent given.new truth.new ≡ back_rows file.now horizon entries.now (lent given.old truth.old)) }
@@ -81,13 +81,10 @@ pub(crate) fn way_back_of(
         given.len(),
         truth.len(),
     ) {
-        return Verdict::Refused(Refusal::Room);
+        return Err(Refusal::Room);
     }
-    let verdict = schedule_verdict(file, index, horizon, entries);
-    let Verdict::Accepted = verdict else {
-        return verdict;
-    };
+    schedule_verdict(file, index, horizon, entries)?;
     give_all(file, index, horizon, given);
     give_truth(file, index, horizon, entries, truth);
-    Verdict::Accepted
+    Ok(())
 }

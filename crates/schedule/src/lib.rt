@@ -10,21 +10,18 @@ ghost use Rattle.rules.specs.Calls.{back_verdict, back_rows};
 ghost use Rattle.schedule.specs.Checked.{checked_verdict};
 ghost use Rattle.schedule.specs.Written.{lent};
 
-use rules::{Refusal, Verdict};
+use rules::Refusal;
 use task::filling::fill_index;
 use task::index::INDEX_LENGTH;
 use task::problem::problem_verdict;
 
 // Whether a schedule is good, without rows.
-pub fn schedule_checked(file: &[u8], horizon: usize, entries: &[u32]) -> Verdict
+pub fn schedule_checked(file: &[u8], horizon: usize, entries: &[u32]) -> Result<(), Refusal>
     ensures { result ≡ checked_verdict file.now horizon entries.now }
 {
-    let problem = problem_verdict(file, horizon);
-    let Verdict::Accepted = problem else {
-        return problem;
-    };
+    problem_verdict(file, horizon)?;
     if entries.len() < horizon {
-        return Verdict::Refused(Refusal::Room);
+        return Err(Refusal::Room);
     }
     let mut index = [0u16; INDEX_LENGTH];
     fill_index(file, &mut index);
@@ -38,14 +35,11 @@ pub fn way_back(
     entries: &[u32],
     given: &mut [u64],
     truth: &mut [u64],
-) -> Verdict
+) -> Result<(), Refusal>
     ensures { (result ≡ back_verdict file.now horizon entries.now (lent given.old truth.old))
         × (lent given.new truth.new ≡ back_rows file.now horizon entries.now (lent given.old truth.old)) }
 {
-    let problem = problem_verdict(file, horizon);
-    let Verdict::Accepted = problem else {
-        return problem;
-    };
+    problem_verdict(file, horizon)?;
     let mut index = [0u16; INDEX_LENGTH];
     fill_index(file, &mut index);
     back::way_back_of(file, &index, horizon, entries, given, truth)

@@ -1,16 +1,15 @@
 // The walk of a schedule through an accepted file's task: every move goes through the walk's `apply`. Each function here is for an accepted
 // file with its index only.
-ghost use Rattle.std.specs.Prelude.{◌≡◌, ◌<◌, ◌≤◌, length};
+ghost use Rattle.std.specs.Prelude.{◌≡◌, ◌<◌, ◌≤◌, length, Ok};
 ghost use Rattle.rules.specs.Counting.{first};
 ghost use Rattle.rules.specs.Answers.{judge};
 ghost use Rattle.rules.specs.Task.{A as actionCount, action};
 ghost use Rattle.rules.specs.File.{action_in, task_of, file_verdict};
 ghost use Rattle.rules.specs.Walk.{entry, start_state, entry_applies, after_entry, schedule_rules};
-ghost use Rattle.rules.specs.declared.Verdict.TheVariants.{Accepted};
 ghost use Rattle.task.specs.Index.{Indexed};
 ghost use Rattle.schedule.specs.Over.{over};
 
-use rules::{Refusal, Verdict};
+use rules::Refusal;
 use task::asked::goals;
 use task::contents::row_body;
 use task::index::{action_place, actions};
@@ -18,7 +17,7 @@ use walk::State;
 
 // The state before the first step.
 pub(crate) fn start_state(file: &[u8]) -> State
-    requires { file_verdict file.now ≡ Accepted }
+    requires { file_verdict file.now ≡ Ok tt }
     ensures { result.values ≡ start_state (task_of file.now) }
 {
     walk::start(row_body(file, 1))
@@ -80,25 +79,25 @@ pub(crate) fn schedule_verdict(
     index: &[u16],
     horizon: usize,
     entries: &[u32],
-) -> Verdict
+) -> Result<(), Refusal>
     requires { Indexed file.now index.now × (horizon ≤ length entries.now) }
     ensures { result ≡ judge (schedule_rules (task_of file.now) horizon entries.now) }
 {
     let unknown = first_over(entries, horizon, actions(file, index));
     if unknown < horizon {
-        return Verdict::Refused(Refusal::EntryOverA(unknown + 1));
+        return Err(Refusal::EntryOverA(unknown + 1));
     }
     let mut state = start_state(file);
     for s in 0..horizon {
         let e = entry_at(entries, s);
         if !entry_applies(file, index, e, &state.values) {
-            return Verdict::Refused(Refusal::DoesNotApply(s + 1));
+            return Err(Refusal::DoesNotApply(s + 1));
         }
         state = after_entry(file, index, e, state);
     }
     let i = walk::unmet(&state.values, row_body(file, 2));
     if i < goals(file) {
-        return Verdict::Refused(Refusal::GoalUnmet(i));
+        return Err(Refusal::GoalUnmet(i));
     }
-    Verdict::Accepted
+    Ok(())
 }

@@ -2,7 +2,7 @@
 #![tactic(auto)]
 
 use refusals::{detail_of, number_of};
-use rules::{Phase, Refusal, Verdict};
+use rules::{Phase, Refusal};
 use std::io;
 
 // Its number and its detail.
@@ -11,10 +11,10 @@ pub fn print_refusal(rt: &impl Print, why: Refusal) -> io::Result<()> {
 }
 
 // Number and detail of the refusal, 0 and 0 at acceptance.
-pub fn print_verdict(rt: &impl Print, verdict: Verdict) -> io::Result<()> {
+pub fn print_verdict(rt: &impl Print, verdict: Result<(), Refusal>) -> io::Result<()> {
     match verdict {
-        Verdict::Accepted => print!(rt; "0 0"),
-        Verdict::Refused(why) => print_refusal(rt, why),
+        Ok(()) => print!(rt; "0 0"),
+        Err(why) => print_refusal(rt, why),
     }
 }
 

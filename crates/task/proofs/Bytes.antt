@@ -1,5 +1,6 @@
 -- Where each part of an accepted file's task stands among the file's bytes.
 -- Assumes nothing.
+use Rattle.std.specs.Prelude.{Ok}
 use mathlib.Core.Path.{◌≡◌, sym, ap, ◌∙◌}
 use mathlib.Core.List.{List}
 use Prim.Native.Nat.{ℕ, ◌+◌, ◌-◌, ◌*◌, ◌/◌, ◌≤◌, ◌<◌}
@@ -10,7 +11,6 @@ use lib.Seq.{get_or-take, get_or-drop}
 use Rattle.rules.specs.Limits.{max_file, contents_bytes, contents_rows, pair_bytes, count_bytes}
 use Rattle.rules.specs.Task.{Task, n, d, A, start_value, pair, action}
 use Rattle.rules.specs.File.{byte, body_start, body_length, body, pairs_at, action_bytes, action_in, rests, is_whole, contents_verdict, task_of, file_verdict}
-use Rattle.rules.specs.declared.Verdict.TheVariants.{Accepted}
 use Rattle.rules.proofs.Valid.{WellFormed}
 use Rattle.rules.proofs.Contents.{Contents, contents_accepted, length-body, body_within}
 use Rattle.rules.proofs.Files.{accepted_file}
@@ -35,7 +35,7 @@ module _ (file : List ℕ) (a : ℕ) where
 
 -- ---- an accepted file
 
-module _ (file : List ℕ) (ok : file_verdict file ≡ Accepted) where
+module _ (file : List ℕ) (ok : file_verdict file ≡ Ok tt) where
   abbrev T : Task
   T = task_of file
 
@@ -45,7 +45,7 @@ module _ (file : List ℕ) (ok : file_verdict file ≡ Accepted) where
   well : WellFormed T
   well = (accepted_file file ok).task.well_formed
 
-  pub contents_ok : contents_verdict file ≡ Accepted
+  pub contents_ok : contents_verdict file ≡ Ok tt
   contents_ok = contents_accepted file contents
 
   pub contents_long : contents_bytes ≤ length file

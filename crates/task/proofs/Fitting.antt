@@ -1,5 +1,6 @@
 -- The numbers of an accepted file's index have two bytes each.
 -- Assumes nothing.
+use Rattle.std.specs.Prelude.{Ok}
 use mathlib.Core.Path.{◌≡◌, sym, ap, ◌∙◌}
 use mathlib.Core.List.{List, []}
 use Prim.Native.Nat.{ℕ, ◌≤◌, ◌<◌}
@@ -9,7 +10,6 @@ use Rattle.rules.specs.Counting.{sum_to}
 use Rattle.rules.specs.Counts.{pairs_below}
 use Rattle.rules.specs.Task.{Task, n, d, A, action}
 use Rattle.rules.specs.File.{body, action_in, rests, task_of, file_verdict}
-use Rattle.rules.specs.declared.Verdict.TheVariants.{Accepted}
 use Rattle.rules.proofs.Counting.{sum_to-ext, sum_to-flat}
 use Rattle.rules.proofs.Bounds.{value_pairs, all_preconditions, all_effects}
 use Rattle.rules.proofs.Valid.{WellFormed}
@@ -17,7 +17,7 @@ use Rattle.rules.proofs.Files.{accepted_well_formed}
 use Rattle.task.specs.Index.{variable_rows, action_rows, index_values, VariablesFit, ActionsFit}
 use Rattle.task.proofs.Bytes.{precondition_count, effect_count}
 
-module _ (file : List ℕ) (ok : file_verdict file ≡ Accepted) where
+module _ (file : List ℕ) (ok : file_verdict file ≡ Ok tt) where
   abbrev T : Task
   T = task_of file
 

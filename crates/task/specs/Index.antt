@@ -1,12 +1,11 @@
 -- The index of a file: numbers that are laid out once, so that each later question is answered by one look.
 -- Assumes nothing.
-use Rattle.std.specs.Prelude.{ℕ, suc, ◌+◌, ◌-◌, ◌*◌, ◌<◌, ◌≡◌, List, [], ◌∷◌, ◌++◌, length, get_or}
+use Rattle.std.specs.Prelude.{ℕ, suc, ◌+◌, ◌-◌, ◌*◌, ◌<◌, ◌≡◌, List, [], ◌∷◌, ◌++◌, length, get_or, Ok}
 use Rattle.rules.specs.Counting.{sum_to, for_each}
 use Rattle.rules.specs.Limits.{byte_values, max_variables, max_actions}
 use Rattle.rules.specs.Counts.{pairs_below}
 use Rattle.rules.specs.Task.{Task, d, A, action}
 use Rattle.rules.specs.File.{byte, body_start, body, rests, task_of, file_verdict}
-use Rattle.rules.specs.declared.Verdict.TheVariants.{Accepted}
 
 -- the rest of an action body from action a on; empty from A on
 abbrev pub rest_at : List ℕ → ℕ → List ℕ
@@ -86,5 +85,5 @@ effects_before T a = sum_to a (λ b. length (action T b).effects)
 
 -- an accepted file and its index
 pub record Indexed (file index : List ℕ) : Type 0 where
-  pub accepted : file_verdict file ≡ Accepted
+  pub accepted : file_verdict file ≡ Ok tt
   pub filled : index ≡ index_of file

@@ -1,9 +1,8 @@
 // What later floors ask of an accepted file without judging it again. Each function here is for an accepted file only.
-ghost use Rattle.std.specs.Prelude.{◌≡◌, ◌+◌, ◌*◌, ◌<◌, length};
+ghost use Rattle.std.specs.Prelude.{◌≡◌, ◌+◌, ◌*◌, ◌<◌, length, Ok};
 ghost use Rattle.rules.specs.Limits.{byte_values, pair_bytes};
 ghost use Rattle.rules.specs.Task.{n, d, A as actionCount, start_value, pair, action};
 ghost use Rattle.rules.specs.File.{byte, task_of, file_verdict};
-ghost use Rattle.rules.specs.declared.Verdict.TheVariants.{Accepted};
 ghost use Rattle.task.specs.Index.{action_place, Indexed};
 
 use crate::index::action_place;
@@ -30,7 +29,7 @@ fn pair_behind(file: &[u8], place: usize, bytes: usize, i: usize) -> ValuePlace
 
 // n.
 pub fn variables(file: &[u8]) -> usize
-    requires { file_verdict file.now ≡ Accepted }
+    requires { file_verdict file.now ≡ Ok tt }
     ensures { result ≡ n (task_of file.now) }
 {
     body_length(file, 0)
@@ -38,7 +37,7 @@ pub fn variables(file: &[u8]) -> usize
 
 // d(x).
 pub fn size(file: &[u8], x: usize) -> usize
-    requires { (file_verdict file.now ≡ Accepted) × (x < n (task_of file.now)) }
+    requires { (file_verdict file.now ≡ Ok tt) × (x < n (task_of file.now)) }
     ensures { result ≡ d (task_of file.now) x }
 {
     byte_behind(file, CONTENTS_BYTES, x)
@@ -46,7 +45,7 @@ pub fn size(file: &[u8], x: usize) -> usize
 
 // The start value of x.
 pub fn start_value(file: &[u8], x: usize) -> usize
-    requires { (file_verdict file.now ≡ Accepted) × (x < n (task_of file.now)) }
+    requires { (file_verdict file.now ≡ Ok tt) × (x < n (task_of file.now)) }
     ensures { result ≡ start_value (task_of file.now) x }
 {
     byte_behind(file, body_start(file, 1), x)
@@ -54,7 +53,7 @@ pub fn start_value(file: &[u8], x: usize) -> usize
 
 // How many goal pairs there are.
 pub fn goals(file: &[u8]) -> usize
-    requires { file_verdict file.now ≡ Accepted }
+    requires { file_verdict file.now ≡ Ok tt }
     ensures { result ≡ length (task_of file.now).goal }
 {
     body_length(file, 2) / PAIR_BYTES
@@ -62,7 +61,7 @@ pub fn goals(file: &[u8]) -> usize
 
 // Goal pair i.
 pub fn goal_pair(file: &[u8], i: usize) -> ValuePlace
-    requires { (file_verdict file.now ≡ Accepted) × (i < length (task_of file.now).goal) }
+    requires { (file_verdict file.now ≡ Ok tt) × (i < length (task_of file.now).goal) }
     ensures { (result.0 ≡ (pair (task_of file.now).goal i).variable) × (result.1 ≡ (pair (task_of file.now).goal i).value) }
 {
     pair_behind(file, body_start(file, 2), 0, i)

@@ -1,10 +1,9 @@
 // Filling the index of an accepted file, once a call, into lent memory.
-ghost use Rattle.std.specs.Prelude.{◌≡◌, [], ◌∷◌, ◌++◌, ◌+◌, ◌*◌, ◌<◌, ◌≤◌, length, take, drop};
+ghost use Rattle.std.specs.Prelude.{◌≡◌, [], ◌∷◌, ◌++◌, ◌+◌, ◌*◌, ◌<◌, ◌≤◌, length, take, drop, Ok};
 ghost use Rattle.std.proofs.lemmas.List.Edits.{sets};
 ghost use Rattle.rules.specs.Counting.{for_each};
 ghost use Rattle.rules.specs.Limits.{byte_values, max_file};
 ghost use Rattle.rules.specs.File.{byte, action_bytes, rests, file_verdict};
-ghost use Rattle.rules.specs.declared.Verdict.TheVariants.{Accepted};
 ghost use Rattle.task.specs.Index.{variable_row, action_row, variable_rows, action_rows, variable_width, action_width, actions_at, index_length, index_of, VariablesFit, ActionsFit};
 
 use crate::index::{ACTION_WIDTH, ACTIONS_AT, COUNT_AT, VARIABLE_WIDTH};
@@ -122,7 +121,7 @@ fn put_actions(start: usize, actions: &[u8], index: &mut [u16])
 
 // The index of an accepted file.
 pub fn fill_index(file: &[u8], index: &mut [u16])
-    requires { (file_verdict file.now ≡ Accepted) × (length index.old ≡ index_length) }
+    requires { (file_verdict file.now ≡ Ok tt) × (length index.old ≡ index_length) }
     ensures { index.new ≡ index_of file.now }
 {
     let actions = row_body(file, 3);

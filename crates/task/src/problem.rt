@@ -7,22 +7,19 @@ ghost use Rattle.task.specs.Index.{Indexed};
 
 use crate::index::{step_width, values};
 use reader::file::file_verdict;
-use rules::{Refusal, Verdict};
+use rules::Refusal;
 
 pub const MAX_HORIZON: usize = 64;
 
 // Refusals 1 to 8.
-pub fn problem_verdict(file: &[u8], horizon: usize) -> Verdict
+pub fn problem_verdict(file: &[u8], horizon: usize) -> Result<(), Refusal>
     ensures { result ≡ problem_verdict file.now horizon }
 {
-    let verdict = file_verdict(file);
-    let Verdict::Accepted = verdict else {
-        return verdict;
-    };
+    file_verdict(file)?;
     if MAX_HORIZON < horizon {
-        return Verdict::Refused(Refusal::Horizon);
+        return Err(Refusal::Horizon);
     }
-    Verdict::Accepted
+    Ok(())
 }
 
 // N, of an accepted file with its index.

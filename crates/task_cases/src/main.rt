@@ -4,13 +4,12 @@
 // and its effects.
 #![tactic(auto)]
 
-ghost use Rattle.std.specs.Prelude.{◌≡◌, ◌+◌, ◌<◌, ◌≤◌, length};
+ghost use Rattle.std.specs.Prelude.{◌≡◌, ◌+◌, ◌<◌, ◌≤◌, length, Ok};
 ghost use Rattle.rules.specs.Task.{n, A as actionCount};
 ghost use Rattle.rules.specs.File.{task_of, file_verdict};
-ghost use Rattle.rules.specs.declared.Verdict.TheVariants.{Accepted};
 ghost use Rattle.task.specs.Index.{Indexed};
 
-use rules::Verdict;
+use rules::Refusal;
 use showing::print_verdict;
 use std::io::Result;
 use task::index::INDEX_LENGTH;
@@ -67,7 +66,7 @@ fn print_start(rt: &impl Print, file: &[u8], index: &[u16]) -> Result<()>
 }
 
 fn print_goal(rt: &impl Print, file: &[u8]) -> Result<()>
-    requires { file_verdict file.now ≡ Accepted }
+    requires { file_verdict file.now ≡ Ok tt }
 {
     print!(rt; "; goal")?;
     for i in 0..task::asked::goals(file) {
@@ -131,7 +130,7 @@ fn print_answers(rt: &impl Print, file: &[u8]) -> Result<()> {
     let verdict = task::file::file_verdict(file);
     print_verdict(rt, verdict)?;
     print_bodies(rt, file)?;
-    let Verdict::Accepted = verdict else {
+    let Ok(()) = verdict else {
         return Ok(());
     };
     let mut index = [0u16; INDEX_LENGTH];

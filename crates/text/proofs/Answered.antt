@@ -1,5 +1,6 @@
 -- The calls' answers: which rule decides each, in their order.
 -- Assumes nothing.
+use Rattle.std.specs.Prelude.{Ok, Err}
 use mathlib.Core.Path.{◌≡◌, refl, sym, ap, ◌∙◌}
 use mathlib.Core.Logic.{⊎_elim}
 use mathlib.Core.List.{List, [], ◌∷◌}
@@ -11,15 +12,13 @@ use lib.Dec.{leb, ltb}
 use lib.ListN.{length, take}
 use Rattle.rules.specs.Limits.{max_horizon}
 use Rattle.rules.specs.Counting.{joined}
-use Rattle.rules.specs.Answers.{demand, judge, in_turn}
+use Rattle.rules.specs.Answers.{demand, judge, in_turn, Verdict}
 use Rattle.rules.specs.Problem.{Problem}
 use Rattle.rules.specs.Families.{C, clause}
 use Rattle.rules.specs.Text.{header_line, clause_line}
 use Rattle.rules.specs.Calls.{problem_of, problem_rules, clause_rules, room_rule, lent_after, problem_verdict, header_verdict, clause_line_verdict, lines_from}
 use Rattle.rules.specs.declared.Refusal.{Refusal}
 use Rattle.rules.specs.declared.Refusal.TheVariants.{ClauseNumber, Room}
-use Rattle.rules.specs.declared.Verdict.{Verdict}
-use Rattle.rules.specs.declared.Verdict.TheVariants.{Accepted, Refused}
 use Rattle.rules.proofs.Bools.{below_or}
 use Rattle.rules.proofs.Judging.{judge_nil, judge_refused, judge_passed, judge_head, judge_append, in_turn-left, in_turn-right}
 use Rattle.task.specs.Index.{Indexed}
@@ -28,8 +27,8 @@ use Rattle.digits.proofs.Overs.{over_front, over_none}
 use Rattle.task.proofs.Stated.{problem_right}
 use Rattle.parts.specs.Runs.{PutPart}
 use Rattle.parts.proofs.OneLine.{made_first, one_line, no_line}
-use Rattle.text.specs.declared.calls.TextAnswer.TheVariants as text
-use Rattle.text.specs.Said.{answered, header_answer, clause_line_answer, lines_answer}
+use Rattle.text.specs.declared.runs.Run.{Run}
+use Rattle.text.specs.Said.{answered, header_answer, clause_line_answer, lines_answer, wrote, TextAnswer}
 use Rattle.text.proofs.Longest.{none_fits, some_fit}
 
 module _ (file : List ℕ) (k : ℕ) where
@@ -46,19 +45,19 @@ module _ (file : List ℕ) (k : ℕ) where
     unfolding header_verdict problem_verdict
     header_turns = judge_append (problem_rules file k) _
 
-    pub header_room_lem : header_verdict file k room ≡ Accepted → length header ≤ room
+    pub header_room_lem : header_verdict file k room ≡ Ok tt → length header ≤ room
     header_room_lem f =
         leb-true (length header) room
         (judge_head (demand (leb (length header) room) Room) [] (in_turn-right (problem_verdict file k) _ (sym header_turns ∙ f)))
 
-    header_refused : (why : Refusal) → problem_verdict file k ≡ Refused why → header_verdict file k room ≡ Refused why
+    header_refused : (why : Refusal) → problem_verdict file k ≡ Err why → header_verdict file k room ≡ Err why
     header_refused why f = rw (header_turns, f)
 
-    module _ (f : problem_verdict file k ≡ Accepted) where
-      header_short : room < length header → header_verdict file k room ≡ Refused Room
+    module _ (f : problem_verdict file k ≡ Ok tt) where
+      header_short : room < length header → header_verdict file k room ≡ Err Room
       header_short h = rw (header_turns, f) (judge_refused _ [] (lt-leb _ room h))
 
-      pub header_fits : length header ≤ room → header_verdict file k room ≡ Accepted
+      pub header_fits : length header ≤ room → header_verdict file k room ≡ Ok tt
       header_fits h = rw (header_turns, f) (judge_passed _ [] (le-leb _ room h) ∙ judge_nil)
 
   -- ---- a clause's line, and many: 1 to 8, 9, then 10
@@ -71,8 +70,8 @@ module _ (file : List ℕ) (k : ℕ) where
         judge_append (clause_rules file k c) _ ∙ ap (λ v. in_turn v (judge (room_rule (length (clause_line (clause P c))) room))) (judge_append (problem_rules file k) _)
 
     -- what acceptance says
-    module _ (f : clause_line_verdict file k c room ≡ Accepted) where
-      turned : in_turn (in_turn (problem_verdict file k) (judge (demand (ltb c (C P)) ClauseNumber ∷ []))) (judge (room_rule (length (clause_line (clause P c))) room)) ≡ Accepted
+    module _ (f : clause_line_verdict file k c room ≡ Ok tt) where
+      turned : in_turn (in_turn (problem_verdict file k) (judge (demand (ltb c (C P)) ClauseNumber ∷ []))) (judge (room_rule (length (clause_line (clause P c))) room)) ≡ Ok tt
       turned = sym line_turns ∙ f
 
       pub line_there : c < C P
@@ -87,21 +86,21 @@ module _ (file : List ℕ) (k : ℕ) where
           (judge_head (demand (leb (length (clause_line (clause P c))) room) Room) []
           (in_turn-right (in_turn (problem_verdict file k) (judge (demand (ltb c (C P)) ClauseNumber ∷ []))) _ turned))
 
-    line_refused : (why : Refusal) → problem_verdict file k ≡ Refused why → clause_line_verdict file k c room ≡ Refused why
+    line_refused : (why : Refusal) → problem_verdict file k ≡ Err why → clause_line_verdict file k c room ≡ Err why
     line_refused why f = rw (line_turns, f)
 
-    module _ (f : problem_verdict file k ≡ Accepted) where
-      line_over : C P ≤ c → clause_line_verdict file k c room ≡ Refused ClauseNumber
+    module _ (f : problem_verdict file k ≡ Ok tt) where
+      line_over : C P ≤ c → clause_line_verdict file k c room ≡ Err ClauseNumber
       line_over h = rw (line_turns, f, judge_refused (demand (ltb c (C P)) ClauseNumber) [] (le-ltb c _ h))
 
       module _ (h : c < C P) where
         room_left : clause_line_verdict file k c room ≡ judge (room_rule (length (clause_line (clause P c))) room)
         room_left = rw (line_turns, f, judge_passed (demand (ltb c (C P)) ClauseNumber) [] (lt-ltb c _ h), judge_nil)
 
-        line_short : room < length (clause_line (clause P c)) → clause_line_verdict file k c room ≡ Refused Room
+        line_short : room < length (clause_line (clause P c)) → clause_line_verdict file k c room ≡ Err Room
         line_short l = room_left ∙ judge_refused _ [] (lt-leb _ room l)
 
-        pub line_fits : length (clause_line (clause P c)) ≤ room → clause_line_verdict file k c room ≡ Accepted
+        pub line_fits : length (clause_line (clause P c)) ≤ room → clause_line_verdict file k c room ≡ Ok tt
         line_fits l = room_left ∙ judge_passed _ [] (le-leb _ room l) ∙ judge_nil
 
   -- ---- the ways out: what is answered, and what is left in lent room
@@ -110,36 +109,36 @@ module _ (file : List ℕ) (k : ℕ) where
     abbrev room : ℕ
     room = length lent
 
-    module _ (v : Verdict) (why : Refusal) (e : v ≡ problem_verdict file k) (f : v ≡ Refused why) where
-      pub header_problem_said : text.Refused why ≡ header_answer file k room
+    module _ (v : Verdict) (why : Refusal) (e : v ≡ problem_verdict file k) (f : v ≡ Err why) where
+      pub header_problem_said : Err why ≡ header_answer file k room
       header_problem_said = rw (header_refused room why (sym e ∙ f))
 
       pub header_problem_left : lent ≡ lent_after (header_verdict file k room) header lent
       header_problem_left = rw (header_refused room why (sym e ∙ f))
 
       module _ (c : ℕ) where
-        pub problem_said : (lines bytes : ℕ) → text.Refused why ≡ answered (clause_line_verdict file k c room) lines bytes
+        pub problem_said : (lines bytes : ℕ) → Err why ≡ answered (clause_line_verdict file k c room) lines bytes
         problem_said lines bytes = rw (line_refused c room why (sym e ∙ f))
 
         pub problem_left : (made : List ℕ) → lent ≡ lent_after (clause_line_verdict file k c room) made lent
         problem_left made = rw (line_refused c room why (sym e ∙ f))
 
     module _ (index : List ℕ) (ix : Indexed file index) (hk : k ≤ max_horizon) where
-      fine : problem_verdict file k ≡ Accepted
+      fine : problem_verdict file k ≡ Ok tt
       fine = sym (problem_right file k _ refl ix.accepted hk)
 
       module _ (line made : List ℕ) (n : ℕ) (w : Wrote line 0 header made n) where
         long : n ≡ length header
         long = w.behind ∙ zero-add (length header)
 
-        pub header_room-said : room < n → text.Refused Room ≡ header_answer file k room
+        pub header_room-said : room < n → Err Room ≡ header_answer file k room
         header_room-said h = rw (header_short room fine (omega (arith, long)))
 
         pub header_room-left : room < n → lent ≡ lent_after (header_verdict file k room) header lent
         header_room-left h = rw (header_short room fine (omega (arith, long)))
 
-        pub header_said : n ≤ room → text.Written 1 n ≡ header_answer file k room
-        header_said h = rw (header_fits room fine (omega (arith, long))) (ap (text.Written 1) long)
+        pub header_said : n ≤ room → wrote 1 n ≡ header_answer file k room
+        header_said h = rw (header_fits room fine (omega (arith, long))) (ap (wrote 1) long)
 
         pub header_left : (after : List ℕ) (end : ℕ) → n ≤ room → Wrote lent 0 (take n made) after end
             → after ≡ lent_after (header_verdict file k room) header lent
@@ -148,7 +147,7 @@ module _ (file : List ℕ) (k : ℕ) where
 
       module _ (c clauses : ℕ) (ec : clauses ≡ C P) where
         module _ (h : clauses ≤ c) where
-          pub number_said : (lines bytes : ℕ) → text.Refused ClauseNumber ≡ answered (clause_line_verdict file k c room) lines bytes
+          pub number_said : (lines bytes : ℕ) → Err ClauseNumber ≡ answered (clause_line_verdict file k c room) lines bytes
           number_said lines bytes = rw (line_over c room fine (omega arith))
 
           pub number_left : (made : List ℕ) → lent ≡ lent_after (clause_line_verdict file k c room) made lent
@@ -163,10 +162,10 @@ module _ (file : List ℕ) (k : ℕ) where
 
           -- one line
           module _ (m end : ℕ) (after : List ℕ) (p : PutPart file k c lent 0 m after end) where
-            short : m ≡ 0 → clause_line_verdict file k c room ≡ Refused Room
+            short : m ≡ 0 → clause_line_verdict file k c room ≡ Err Room
             short z = let s = p.none z in line_short c room fine there (omega arith)
 
-            pub line_room-said : m ≡ 0 → text.Refused Room ≡ clause_line_answer file k c room
+            pub line_room-said : m ≡ 0 → Err Room ≡ clause_line_answer file k c room
             line_room-said z = rw (short z)
 
             pub line_room-left : m ≡ 0 → after ≡ lent_after (clause_line_verdict file k c room) line lent
@@ -181,11 +180,11 @@ module _ (file : List ℕ) (k : ℕ) where
               end_is : end ≡ length line
               end_is = one.behind ∙ zero-add (length line)
 
-              fits : clause_line_verdict file k c room ≡ Accepted
+              fits : clause_line_verdict file k c room ≡ Ok tt
               fits = line_fits c room fine there (omega (arith, p.within, end_is))
 
-              pub line_said : text.Written 1 end ≡ clause_line_answer file k c room
-              line_said = rw fits (ap (text.Written 1) end_is)
+              pub line_said : wrote 1 end ≡ clause_line_answer file k c room
+              line_said = rw fits (ap (wrote 1) end_is)
 
               pub line_left : after ≡ lent_after (clause_line_verdict file k c room) line lent
               line_left = rw fits (one.written ∙ over_front lent line)
@@ -194,12 +193,12 @@ module _ (file : List ℕ) (k : ℕ) where
           abbrev lines : List (List ℕ)
           lines = lines_from file k c room
 
-          module _ (m bytes : ℕ) (after : List ℕ) (o : after ≡ over lent 0 (joined lines)) (em : m ≡ length lines) where
+          module _ (m : ℕ) (after : List ℕ) (o : after ≡ over lent 0 (joined lines)) (em : m ≡ length lines) where
             many_short : m ≡ 0 → room < length line
             many_short z =
                 ⊎_elim (λ s. s) (λ s. absurd (omega (arith, some_fit file k c room there s))) (below_or room (length line))
 
-            pub many_room_said : m ≡ 0 → text.Refused Room ≡ lines_answer file k c room
+            pub many_room_said : m ≡ 0 → Err Room ≡ lines_answer file k c room
             many_room_said z = rw (line_short c room fine there (many_short z))
 
             pub many_room_left : m ≡ 0 → after ≡ lent_after (clause_line_verdict file k c room) (joined lines) lent
@@ -208,12 +207,14 @@ module _ (file : List ℕ) (k : ℕ) where
                 rw (line_short c room fine there (many_short z)) (o ∙ rw (none_fits file k c room there (many_short z)) (over_none lent 0))
 
             module _ (some : m ≡ 0 → ⊥) where
-              many_fit : clause_line_verdict file k c room ≡ Accepted
+              many_fit : clause_line_verdict file k c room ≡ Ok tt
               many_fit =
                   ⊎_elim (λ s. absurd (some (em ∙ ap length (none_fits file k c room there s)))) (line_fits c room fine there) (below_or room (length line))
 
-              pub many_said : bytes ≡ length (joined lines) → text.Written m bytes ≡ lines_answer file k c room
-              many_said eb = rw (many_fit, em, eb)
+              pub many_said : (run : Run) → run.lines ≡ m → run.bytes ≡ length (joined lines) → Ok run ≡ lines_answer file k c room
+              many_said run el eb =
+                  let said : ◌≡◌ {A = TextAnswer} (wrote run.lines run.bytes) (wrote (length lines) (length (joined lines))) = rw (el ∙ em, eb) in
+                  rw many_fit said
 
               pub many_left : after ≡ lent_after (clause_line_verdict file k c room) (joined lines) lent
               many_left = rw many_fit (o ∙ over_front lent (joined lines))

@@ -1,6 +1,7 @@
 -- Demand 2, first sentence, of text: the header and over all c below C the lines that `clause_line` writes are the formula's text, in order; so are
 -- the header and what calls of `lines` write, each beginning behind the lines of the one before, whatever room each is lent that takes any line.
 -- Assumes nothing.
+use Rattle.std.specs.Prelude.{Ok, Err}
 use mathlib.Core.Path.{◌≡◌, sym, ap, ◌∙◌}
 use mathlib.Core.List.{List, [], ◌++◌}
 use Prim.Native.Nat.{ℕ, zero, suc, ◌+◌, ◌≤◌, ◌<◌}
@@ -13,15 +14,12 @@ use Rattle.rules.specs.Problem.{Problem}
 use Rattle.rules.specs.Families.{C, clause, formula}
 use Rattle.rules.specs.Text.{header_line, clause_line, clause_lines, formula_text}
 use Rattle.rules.specs.Calls.{problem_of, problem_verdict, lent_after, header_verdict, clause_line_verdict, lines_from, header_after, clause_line_after, lines_after}
-use Rattle.rules.specs.declared.Verdict.{Verdict}
-use Rattle.rules.specs.declared.Verdict.TheVariants.{Accepted}
+use Rattle.rules.specs.Answers.{Verdict}
 use Rattle.rules.proofs.Counting.{for_each-ext, for_each-joined}
 use Rattle.lines.specs.Written.{line_room}
 use Rattle.parts.specs.Runs.{run}
 use Rattle.parts.proofs.OneLine.{no_line}
-use Rattle.text.specs.declared.calls.TextAnswer.{TextAnswer}
-use Rattle.text.specs.declared.calls.TextAnswer.TheVariants as text
-use Rattle.text.specs.Said.{answered, header_answer, clause_line_answer, lines_answer}
+use Rattle.text.specs.Said.{answered, header_answer, clause_line_answer, lines_answer, TextAnswer}
 use Rattle.text.proofs.Longest.{run_taken, some_fit, lines_most}
 use Rattle.text.proofs.Running.{run_append}
 use Rattle.text.proofs.Answered.{header_fits, line_fits}
@@ -33,8 +31,8 @@ use Rattle.text.proofs.Room.{line_most}
 
 -- the bytes that an answer says were written
 abbrev pub text_of : TextAnswer → List ℕ → List ℕ
-text_of (text.Written lines bytes) left = take bytes left
-text_of (text.Refused why) left = []
+text_of (Ok run) left = take run.bytes left
+text_of (Err why) left = []
 
 -- what each call promises of its answer and of the lent room that it leaves, word for word from its contract
 abbrev pub HeaderPromised : (file : List ℕ) (k : ℕ) (lent : List ℕ) → TextAnswer → (left : List ℕ) → Type 0
@@ -59,10 +57,10 @@ pub lines_promise : (κs : _) (a : _) (r : TextAnswer) (x : _) → lines.Post κ
 lines_promise κs a r x p = p
 
 -- an accepted call's text stands in front of the room
-written_first : (v : Verdict) (lines : ℕ) (made lent : List ℕ) → v ≡ Accepted → text_of (answered v lines (length made)) (lent_after v made lent) ≡ made
+written_first : (v : Verdict) (lines : ℕ) (made lent : List ℕ) → v ≡ Ok tt → text_of (answered v lines (length made)) (lent_after v made lent) ≡ made
 written_first v lines made lent e = rw e (take-append_seam made (drop (length made) lent))
 
-module _ (file : List ℕ) (k : ℕ) (ok : problem_verdict file k ≡ Accepted) where
+module _ (file : List ℕ) (k : ℕ) (ok : problem_verdict file k ≡ Ok tt) where
   abbrev P : Problem
   P = problem_of file k
 
@@ -100,7 +98,7 @@ module _ (file : List ℕ) (k : ℕ) (ok : problem_verdict file k ≡ Accepted) 
     room : length (clause_line (clause P c)) ≤ length lent
     room = omega (arith, line_most file k c ok h)
 
-    fine : clause_line_verdict file k c (length lent) ≡ Accepted
+    fine : clause_line_verdict file k c (length lent) ≡ Ok tt
     fine = line_fits file k c (length lent) ok h room
 
     counted : lines_of r ≡ length (lines_from file k c (length lent))

@@ -1,13 +1,13 @@
 -- Any two answers that a promise allows are equal, lent room after the call included.
 -- Assumes nothing.
 use mathlib.Core.Path.{◌≡◌, sym, ◌∙◌}
-use Rattle.text.specs.declared.calls.TextAnswer.{TextAnswer}
 use Rattle.text.proofs.calls.header.Reads as header
 use Rattle.text.proofs.calls.header_indexed.Reads as header-indexed
 use Rattle.text.proofs.calls.clause_line.Reads as clause-line
 use Rattle.text.proofs.calls.clause_line_indexed.Reads as clause-line-indexed
 use Rattle.text.proofs.calls.lines.Reads as lines
 use Rattle.text.proofs.calls.lines_indexed.Reads as lines-indexed
+use Rattle.text.specs.Said.{TextAnswer}
 
 pub one_header : (κs : _) (a : _) (r s : TextAnswer) (x y : _) → header.Post κs a r x → header.Post κs a s y → r ≡ s
 one_header κs a r s x y p q = p.0 ∙ sym q.0

@@ -1,5 +1,6 @@
 -- No line of an accepted file's formula is longer than the room that surely suffices for one.
 -- Assumes nothing.
+use Rattle.std.specs.Prelude.{Ok}
 use mathlib.Core.Path.{◌≡◌, refl}
 use mathlib.Core.Bool.{true}
 use mathlib.Core.List.{List, [], ◌∷◌, ◌++◌, map}
@@ -16,7 +17,6 @@ use Rattle.rules.specs.Families.{Literal, plus, minus, Clause, C, clause, formul
 use Rattle.rules.specs.Text.{space, digit0, lf, decimal, literal_text, clause_line}
 use Rattle.rules.specs.File.{task_of}
 use Rattle.rules.specs.Calls.{problem_of, problem_verdict}
-use Rattle.rules.specs.declared.Verdict.TheVariants.{Accepted}
 use Rattle.rules.proofs.Bools.{and_left, and_right}
 use Rattle.rules.proofs.Counting.{every_get_or}
 use Rattle.rules.proofs.Decimal.{decimal_few}
@@ -47,7 +47,7 @@ module _ (P : Problem) (most : N P ≤ max_n) where
       sum : (x y z : List ℕ) (m : ℕ) → length x ≤ literal_room → length (y ++ z) ≤ m * literal_room + end_room → length ((x ++ y) ++ z) ≤ suc m * literal_room + end_room
       sum x y z m h l = omega (arith, length-append (x ++ y) z, length-append x y, length-append y z)
 
-pub line_most : (file : List ℕ) (k c : ℕ) → problem_verdict file k ≡ Accepted → c < C (problem_of file k) → length (clause_line (clause (problem_of file k) c)) ≤ line_room
+pub line_most : (file : List ℕ) (k c : ℕ) → problem_verdict file k ≡ Ok tt → c < C (problem_of file k) → length (clause_line (clause (problem_of file k) c)) ≤ line_room
 unfolding problem_of clause C
 line_most file k c ok h =
     let fine = accepted_well_formed file (file_accepted file k (problem_verdict file k) refl ok) in

@@ -1,5 +1,6 @@
 -- What an answer of `lines` says of its numbers: some lines, none behind the last, within the room.
 -- Assumes nothing.
+use Rattle.std.specs.Prelude.{Ok, Err}
 use mathlib.Core.Path.{◌≡◌, refl, sym, ap, ◌∙◌}
 use mathlib.Core.Logic.{⊎_elim}
 use mathlib.Core.List.{List, [], ◌∷◌}
@@ -11,41 +12,38 @@ use Rattle.rules.specs.Counting.{joined}
 use Rattle.rules.specs.Families.{C}
 use Rattle.rules.specs.Text.{header_line, clause_lines}
 use Rattle.rules.specs.Calls.{problem_of, header_verdict, clause_line_verdict, fitting, lines_from}
-use Rattle.rules.specs.declared.Verdict.{Verdict}
-use Rattle.rules.specs.declared.Verdict.TheVariants.{Accepted, Refused}
+use Rattle.rules.specs.Answers.{Verdict}
 use Rattle.rules.proofs.Bools.{below_or}
-use Rattle.text.specs.declared.calls.TextAnswer.{TextAnswer}
-use Rattle.text.specs.declared.calls.TextAnswer.TheVariants as text
-use Rattle.text.specs.Said.{answered, header_answer, lines_answer}
+use Rattle.text.specs.Said.{answered, header_answer, lines_answer, TextAnswer, wrote}
 use Rattle.text.proofs.Longest.{all_lines, some_fit}
 use Rattle.text.proofs.Answered.{header_room_lem, line_there, line_room_lem}
 
 abbrev verdict_of : TextAnswer → Verdict
-verdict_of (text.Written lines bytes) = Accepted
-verdict_of (text.Refused why) = Refused why
+verdict_of (Ok run) = Ok tt
+verdict_of (Err why) = Err why
 
 -- the lines and the bytes that an answer says were written
 abbrev pub lines_of : TextAnswer → ℕ
-lines_of (text.Written lines bytes) = lines
-lines_of (text.Refused why) = 0
+lines_of (Ok run) = run.lines
+lines_of (Err why) = 0
 
 abbrev pub bytes_of : TextAnswer → ℕ
-bytes_of (text.Written lines bytes) = bytes
-bytes_of (text.Refused why) = 0
+bytes_of (Ok run) = run.bytes
+bytes_of (Err why) = 0
 
 verdict_back : (v : Verdict) (lines bytes : ℕ) → verdict_of (answered v lines bytes) ≡ v
-verdict_back Accepted lines bytes = refl
-verdict_back (Refused why) lines bytes = refl
+verdict_back (Ok _) lines bytes = refl
+verdict_back (Err why) lines bytes = refl
 
-module _ (v : Verdict) (lines bytes m b : ℕ) (e : answered v lines bytes ≡ text.Written m b) where
-  said_accepted : v ≡ Accepted
+module _ (v : Verdict) (lines bytes m b : ℕ) (e : answered v lines bytes ≡ wrote m b) where
+  said_accepted : v ≡ Ok tt
   said_accepted = sym (verdict_back v lines bytes) ∙ ap verdict_of e
 
   said_lines : lines ≡ m
-  said_lines = let f : text.Written lines bytes ≡ text.Written m b = rw said_accepted at e in ap lines_of f
+  said_lines = let f : wrote lines bytes ≡ wrote m b = rw said_accepted at e in ap lines_of f
 
   said_bytes : bytes ≡ b
-  said_bytes = let f : text.Written lines bytes ≡ text.Written m b = rw said_accepted at e in ap bytes_of f
+  said_bytes = let f : wrote lines bytes ≡ wrote m b = rw said_accepted at e in ap bytes_of f
 
 fitting_within : (ls : List (List ℕ)) (room : ℕ) → length (joined (take (fitting room ls) ls)) ≤ room
 unfolding fitting joined
@@ -60,7 +58,7 @@ fitting_within (l ∷ ls) room =
 
 module _ (file : List ℕ) (k : ℕ) where
   -- the header is within the room
-  pub header_within : (room m b : ℕ) (r : TextAnswer) → r ≡ header_answer file k room → r ≡ text.Written m b → b ≤ room
+  pub header_within : (room m b : ℕ) (r : TextAnswer) → r ≡ header_answer file k room → r ≡ wrote m b → b ≤ room
   header_within room m b r e f =
       let is = sym e ∙ f in
       omega (
@@ -69,11 +67,11 @@ module _ (file : List ℕ) (k : ℕ) where
         header_room_lem file k room (said_accepted (header_verdict file k room) 1 (length (header_line (problem_of file k))) m b is),
       )
 
-  module _ (c room m b : ℕ) (r : TextAnswer) (e : r ≡ lines_answer file k c room) (f : r ≡ text.Written m b) where
+  module _ (c room m b : ℕ) (r : TextAnswer) (e : r ≡ lines_answer file k c room) (f : r ≡ wrote m b) where
     abbrev lines : List (List ℕ)
     lines = lines_from file k c room
 
-    accepted : clause_line_verdict file k c room ≡ Accepted
+    accepted : clause_line_verdict file k c room ≡ Ok tt
     accepted = said_accepted (clause_line_verdict file k c room) (length lines) (length (joined lines)) m b (sym e ∙ f)
 
     pub lines_are : m ≡ length lines

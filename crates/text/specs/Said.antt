@@ -1,18 +1,24 @@
 -- What the calls answer.
 -- Assumes nothing.
-use Rattle.std.specs.Prelude.{ℕ, List, length}
+use Rattle.std.specs.Prelude.{ℕ, List, length, Ok, Err, Result}
 use Rattle.rules.specs.Counting.{joined}
 use Rattle.rules.specs.Families.{clause}
 use Rattle.rules.specs.Text.{header_line, clause_line}
 use Rattle.rules.specs.Calls.{problem_of, header_verdict, clause_line_verdict, lines_from}
-use Rattle.rules.specs.declared.Verdict.{Verdict}
-use Rattle.rules.specs.declared.Verdict.TheVariants.{Accepted, Refused}
-use Rattle.text.specs.declared.calls.TextAnswer.{TextAnswer}
-use Rattle.text.specs.declared.calls.TextAnswer.TheVariants as text
+use Rattle.rules.specs.Answers.{Verdict}
+use Rattle.rules.specs.declared.Refusal.{Refusal}
+use Rattle.text.specs.declared.runs.Run.{Run}
+
+-- how many lines and bytes were written
+abbrev pub TextAnswer : Type 0
+TextAnswer = Result Run Refusal
+
+abbrev pub wrote : (lines bytes : ℕ) → TextAnswer
+wrote lines bytes = Ok (record { lines = lines; bytes = bytes })
 
 abbrev pub answered : Verdict → (lines bytes : ℕ) → TextAnswer
-answered Accepted lines bytes = text.Written lines bytes
-answered (Refused why) lines bytes = text.Refused why
+answered (Ok _) lines bytes = wrote lines bytes
+answered (Err why) lines bytes = Err why
 
 -- one line and the bytes of the header, or refusals 1 to 8 and 10
 abbrev pub header_answer : List ℕ → ℕ → (room : ℕ) → TextAnswer

@@ -6,23 +6,21 @@ ghost use Rattle.task.specs.Index.{Indexed};
 ghost use Rattle.text.specs.Said.{header_answer, clause_line_answer, lines_answer};
 
 use crate::header::{HEADER_ROOM, put_header};
-use crate::runs::put_run;
+use crate::runs::{Run, put_run};
 use formula::families::count_clauses;
 use parts::single::{copy, put_one};
-use rules::{Refusal, Verdict};
+use rules::Refusal;
 use task::filling::fill_index;
 use task::index::INDEX_LENGTH;
 use task::problem::problem_verdict;
 
-// How many lines and bytes were written.
-#[derive(Clone, Copy)]
-pub enum TextAnswer {
-    Written { lines: usize, bytes: usize },
-    Refused(Refusal),
-}
-
 // The same as `header`, of an accepted file with its index.
-pub fn header_indexed(file: &[u8], index: &[u16], horizon: usize, out: &mut [u8]) -> TextAnswer
+pub fn header_indexed(
+    file: &[u8],
+    index: &[u16],
+    horizon: usize,
+    out: &mut [u8],
+) -> Result<Run, Refusal>
     requires { Indexed file.now index.now × (horizon ≤ max_horizon) }
     ensures { (result ≡ header_answer file.now horizon (length out.old))
         × (out.new ≡ header_after file.now horizon out.old) }
@@ -30,21 +28,18 @@ pub fn header_indexed(file: &[u8], index: &[u16], horizon: usize, out: &mut [u8]
     let mut line = [0u8; HEADER_ROOM];
     let bytes = put_header(file, index, horizon, &mut line);
     if out.len() < bytes {
-        return TextAnswer::Refused(Refusal::Room);
+        return Err(Refusal::Room);
     }
     copy(&line, bytes, out, 0);
-    TextAnswer::Written { lines: 1, bytes }
+    Ok(Run { lines: 1, bytes })
 }
 
 // The header: refusals 1 to 8 and 10, or its one line and its bytes.
-pub fn header(file: &[u8], horizon: usize, out: &mut [u8]) -> TextAnswer
+pub fn header(file: &[u8], horizon: usize, out: &mut [u8]) -> Result<Run, Refusal>
     ensures { (result ≡ header_answer file.now horizon (length out.old))
         × (out.new ≡ header_after file.now horizon out.old) }
 {
-    let verdict = problem_verdict(file, horizon);
-    if let Verdict::Refused(why) = verdict {
-        return TextAnswer::Refused(why);
-    }
+    problem_verdict(file, horizon)?;
     let mut index = [0u16; INDEX_LENGTH];
     fill_index(file, &mut index);
     header_indexed(file, &index, horizon, out)
@@ -57,33 +52,30 @@ pub fn clause_line_indexed(
     horizon: usize,
     c: usize,
     out: &mut [u8],
-) -> TextAnswer
+) -> Result<Run, Refusal>
     requires { Indexed file.now index.now × (horizon ≤ max_horizon) }
     ensures { (result ≡ clause_line_answer file.now horizon c (length out.old))
         × (out.new ≡ clause_line_after file.now horizon c out.old) }
 {
     if count_clauses(file, index, horizon) <= c {
-        return TextAnswer::Refused(Refusal::ClauseNumber);
+        return Err(Refusal::ClauseNumber);
     }
     let part = put_one(file, index, horizon, c, out, 0);
     if part.lines == 0 {
-        return TextAnswer::Refused(Refusal::Room);
+        return Err(Refusal::Room);
     }
-    TextAnswer::Written {
+    Ok(Run {
         lines: 1,
         bytes: part.end,
-    }
+    })
 }
 
 // The line of clause c: refusals 1 to 10, or its one line and its bytes.
-pub fn clause_line(file: &[u8], horizon: usize, c: usize, out: &mut [u8]) -> TextAnswer
+pub fn clause_line(file: &[u8], horizon: usize, c: usize, out: &mut [u8]) -> Result<Run, Refusal>
     ensures { (result ≡ clause_line_answer file.now horizon c (length out.old))
         × (out.new ≡ clause_line_after file.now horizon c out.old) }
 {
-    let verdict = problem_verdict(file, horizon);
-    if let Verdict::Refused(why) = verdict {
-        return TextAnswer::Refused(why);
-    }
+    problem_verdict(file, horizon)?;
     let mut index = [0u16; INDEX_LENGTH];
     fill_index(file, &mut index);
     clause_line_indexed(file, &index, horizon, c, out)
@@ -96,34 +88,28 @@ pub fn lines_indexed(
     horizon: usize,
     c: usize,
     out: &mut [u8],
-) -> TextAnswer
+) -> Result<Run, Refusal>
     requires { Indexed file.now index.now × (horizon ≤ max_horizon) }
     ensures { (result ≡ lines_answer file.now horizon c (length out.old))
         × (out.new ≡ lines_after file.now horizon c out.old) }
 {
     let all = count_clauses(file, index, horizon);
     if all <= c {
-        return TextAnswer::Refused(Refusal::ClauseNumber);
+        return Err(Refusal::ClauseNumber);
     }
     let run = put_run(file, index, horizon, all, c, out);
     if run.lines == 0 {
-        return TextAnswer::Refused(Refusal::Room);
+        return Err(Refusal::Room);
     }
-    TextAnswer::Written {
-        lines: run.lines,
-        bytes: run.bytes,
-    }
+    Ok(run)
 }
 
 // As many whole lines as fit, from clause c on: refusals 1 to 10, or how many lines and bytes.
-pub fn lines(file: &[u8], horizon: usize, c: usize, out: &mut [u8]) -> TextAnswer
+pub fn lines(file: &[u8], horizon: usize, c: usize, out: &mut [u8]) -> Result<Run, Refusal>
     ensures { (result ≡ lines_answer file.now horizon c (length out.old))
         × (out.new ≡ lines_after file.now horizon c out.old) }
 {
-    let verdict = problem_verdict(file, horizon);
-    if let Verdict::Refused(why) = verdict {
-        return TextAnswer::Refused(why);
-    }
+    problem_verdict(file, horizon)?;
     let mut index = [0u16; INDEX_LENGTH];
     fill_index(file, &mut index);
     lines_indexed(file, &index, horizon, c, out)

@@ -5,10 +5,12 @@
 
 ghost use Rattle.std.specs.Prelude.{◌≤◌, length};
 
+use rules::Refusal;
 use showing::print_refusal;
 use std::io;
 use std::io::Read;
-use text::calls::{TextAnswer, clause_line, header, lines};
+use text::calls::{clause_line, header, lines};
+use text::runs::Run;
 
 const FOLDER_LENGTH: usize = 38;
 
@@ -17,10 +19,10 @@ const ROOM: usize = 40;
 
 const WIDE_ROOM: usize = 480;
 
-fn show_answer(rt: &impl Print, answer: TextAnswer) -> io::Result<()> {
+fn show_answer(rt: &impl Print, answer: Result<Run, Refusal>) -> io::Result<()> {
     match answer {
-        TextAnswer::Written { lines, bytes } => print!(rt; "{lines} lines, {bytes} bytes: "),
-        TextAnswer::Refused(why) => {
+        Ok(run) => print!(rt; "{} lines, {} bytes: ", run.lines, run.bytes),
+        Err(why) => {
             print!(rt; "refused ")?;
             print_refusal(rt, why)?;
             print!(rt; ": ")

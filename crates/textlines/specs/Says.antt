@@ -1,13 +1,11 @@
 -- What a line says to the one who reads it: the numbers that its shape lets it have, or the rules' refusal.
 -- Assumes nothing.
 use Rattle.std.specs.Prelude.{ℕ, Bool, cond, ◌&&◌, ◌||◌, List, [], eqb, Option, None, Some, Result, Ok, Err}
-use Rattle.rules.specs.Answers.{judge}
+use Rattle.rules.specs.Answers.{judge, Verdict}
 use Rattle.rules.specs.Format.{Shape, keyword, name, version, metric, layer, number, fact, effect, axiom_count, nothing, shape_of, line_rules, word_at, word_count, is_plain, is_minus_one, number_at, line_number, has_old}
 use Rattle.rules.specs.declared.FormatLine.{FormatLine}
 use Rattle.rules.specs.declared.Refusal.{Refusal}
 use Rattle.rules.specs.declared.Refusal.TheVariants.{AgainstFormat}
-use Rattle.rules.specs.declared.Verdict.{Verdict}
-use Rattle.rules.specs.declared.Verdict.TheVariants.{Accepted, Refused}
 use Rattle.textlines.specs.declared.Numbers.{Numbers}
 
 abbrev pub numbers : (first second : ℕ) → Option ℕ → Numbers
@@ -32,8 +30,8 @@ numbers_in axiom_count line = no_numbers
 numbers_in nothing line = no_numbers
 
 abbrev pub said_by : Verdict → Numbers → Result Numbers Refusal
-said_by Accepted says = Ok says
-said_by (Refused why) says = Err why
+said_by (Ok _) says = Ok says
+said_by (Err why) says = Err why
 
 -- a line that has to be of some shape, at its number in the text
 unfoldable pub shape_says : Shape → (at : ℕ) → List ℕ → Result Numbers Refusal

@@ -1,5 +1,6 @@
 -- The program as a whole: whatever parts its input comes in, what is printed is the rules' own output of the whole input.
 -- Assumes nothing.
+use Rattle.std.specs.Prelude.{Ok, Err}
 use mathlib.Core.Path.{◌≡◌, refl, sym, ap, subst, ◌∙◌}
 use mathlib.Core.Bool.{Bool, true, false, cond}
 use mathlib.Core.List.{List, [], ◌∷◌, ◌++◌, foldl, foldl-append}
@@ -16,14 +17,12 @@ use Rattle.rules.specs.Programs.{printed}
 use Rattle.rules.specs.Translation.{text_task, translation_verdict, translation_after, translation_output}
 use Rattle.rules.specs.declared.Refusal.{Refusal}
 use Rattle.rules.specs.declared.Refusal.TheVariants.{Room}
-use Rattle.rules.specs.declared.Verdict.{Verdict}
-use Rattle.rules.specs.declared.Verdict.TheVariants.{Accepted, Refused}
+use Rattle.rules.specs.Answers.{Verdict}
 use Rattle.digits.specs.Over.{over}
 use Rattle.digits.proofs.Overs.{over_front}
-use Rattle.translator.specs.Intake.{Memory, Lent, head_room, most_lines, Taken, taken, take_call, begun, translation, ended, end_verdict, file_kept, end_with, finish_call, last_line, has_room}
+use Rattle.translator.specs.Intake.{Memory, Lent, head_room, most_lines, Taken, taken, take_call, begun, translation, ended, end_verdict, file_kept, end_with, finish_call, last_line, has_room, Translation}
 use Rattle.translator.proofs.WholeText.{translated}
 use Rattle.translator.specs.declared.intake.Intake.{Intake}
-use Rattle.translator.specs.declared.intake.Translation.{Translation}
 use Rattle.translate.specs.Parts.{part_room, most_parts, FedSome, text_of, end_text, Shown, ShownBehind, Answered}
 
 -- ---- the parts
@@ -56,25 +55,25 @@ first_taken m line first i after e b = e ∙ ap (λ j. take_call (taken j m line
 -- ---- the end
 
 abbrev length_of : Translation → ℕ
-length_of (Translation.Written length) = length
-length_of (Translation.Refused why) = 0
+length_of (Ok length) = length
+length_of (Err why) = 0
 
-ends_within : (v : Verdict) (file room : List ℕ) (n : ℕ) → translation v (length file) ≡ Translation.Written n → n ≤ length (lent_after v file room)
-ends_within Accepted file room n e = omega (arith, ap length_of e, length-append file (drop (length file) room))
-ends_within (Refused why) file room n e = omega (arith, ap length_of e)
+ends_within : (v : Verdict) (file room : List ℕ) (n : ℕ) → translation v (length file) ≡ Ok n → n ≤ length (lent_after v file room)
+ends_within (Ok _) file room n e = omega (arith, ap length_of e, length-append file (drop (length file) room))
+ends_within (Err why) file room n e = omega (arith, ap length_of e)
 
-with_room : (b : Bool) (t : Taken) (room : List ℕ) (n : ℕ) → (cond b (end_with (last_line t) room) (ended (Translation.Refused Room) room)).answer ≡ Translation.Written n
-    → n ≤ length (cond b (end_with (last_line t) room) (ended (Translation.Refused Room) room)).room
+with_room : (b : Bool) (t : Taken) (room : List ℕ) (n : ℕ) → (cond b (end_with (last_line t) room) (ended (Err Room) room)).answer ≡ Ok n
+    → n ≤ length (cond b (end_with (last_line t) room) (ended (Err Room) room)).room
 unfolding end_with
 with_room true t room n e = ends_within (end_verdict (last_line t) (length room)) (file_kept (last_line t).intake.kept (last_line t).memory) room n e
 with_room false t room n e = omega (arith, ap length_of e)
 
-finish_within : (t : Taken) (room : List ℕ) (n : ℕ) → (finish_call t room).answer ≡ Translation.Written n → n ≤ length (finish_call t room).room
+finish_within : (t : Taken) (room : List ℕ) (n : ℕ) → (finish_call t room).answer ≡ Ok n → n ≤ length (finish_call t room).room
 unfolding finish_call
 finish_within t room n e = with_room (has_room t) t room n e
 
 module _ (t : Taken) (room now : List ℕ) (answer : Translation) where
-  pub written_shown : (n : ℕ) → ended answer now ≡ finish_call t room → answer ≡ Translation.Written n → Shown (end_text t room) now n
+  pub written_shown : (n : ℕ) → ended answer now ≡ finish_call t room → answer ≡ Ok n → Shown (end_text t room) now n
   unfolding end_text
   written_shown n e f =
       record {
@@ -83,7 +82,7 @@ module _ (t : Taken) (room now : List ℕ) (answer : Translation) where
       }
 
   pub refused_shown : (why : Refusal) (shown : List ℕ) (end : ℕ) → shown ≡ over now 0 (refusal_line why) → end ≡ length (refusal_line why) → ended answer now ≡ finish_call t room
-      → answer ≡ Translation.Refused why → Shown (end_text t room) shown end
+      → answer ≡ Err why → Shown (end_text t room) shown end
   unfolding end_text
   refused_shown why shown end g h e f =
       let line : List ℕ = refusal_line why in
@@ -107,8 +106,8 @@ behind_same t u room now end s e = subst (λ x. ShownBehind x room now end) e s
 -- ---- the whole
 
 text_said : (v : Verdict) (file room : List ℕ) → text_of (translation v (length file)) (lent_after v file room) ≡ printed v file
-text_said Accepted file room = take-append_seam file (drop (length file) room)
-text_said (Refused why) file room = refl
+text_said (Ok _) file room = take-append_seam file (drop (length file) room)
+text_said (Err why) file room = refl
 
 module _ (m : Memory) (line : List ℕ) (h : Lent m) (held : head_room ≤ length line) where
   prints : (parts : List (List ℕ)) (room : List ℕ) → length (joined parts) < most_lines → max_file ≡ length room

@@ -1,12 +1,11 @@
 -- The input in parts, and what is printed once the last is taken in.
 -- Assumes nothing.
-use Rattle.std.specs.Prelude.{ℕ, ◌*◌, ◌-◌, ◌^◌, ◌≤◌, ◌<◌, ◌≡◌, length, take}
+use Rattle.std.specs.Prelude.{ℕ, ◌*◌, ◌-◌, ◌^◌, ◌≤◌, ◌<◌, ◌≡◌, length, take, Ok, Err}
 use mathlib.Core.List.{List, [], ◌++◌, foldl}
 use Rattle.rules.specs.Counting.{joined}
 use Rattle.rules.specs.Text.{refusal_line}
 use Rattle.rules.specs.Translation.{translation_output}
-use Rattle.translator.specs.Intake.{Taken, take_call, Ended, finish_call}
-use Rattle.translator.specs.declared.intake.Translation.{Translation}
+use Rattle.translator.specs.Intake.{Taken, take_call, Ended, finish_call, Translation}
 
 abbrev pub part_room : ℕ
 part_room = 65536
@@ -24,8 +23,8 @@ pub record FedSome (before after : Taken) (most : ℕ) : Type 0 where
 -- ---- the end
 
 abbrev pub text_of : Translation → (room : List ℕ) → List ℕ
-text_of (Translation.Written length) room = take length room
-text_of (Translation.Refused why) room = refusal_line why
+text_of (Ok length) room = take length room
+text_of (Err why) room = refusal_line why
 
 -- what is printed: the file that was written, or the line of a refusal
 unfoldable pub end_text : Taken → (room : List ℕ) → List ℕ

@@ -9,7 +9,7 @@ ghost use Rattle.translate.specs.Parts.{part_room, most_parts, FedSome, end_text
 
 use reader::limits::{MAX_FILE, MAX_VARIABLES};
 use translator::ending::finish;
-use translator::intake::{Intake, Translation, begin, take_bytes};
+use translator::intake::{Intake, begin, take_bytes};
 use translator::room::{ACTIONS_ROOM, GOAL_ROOM, HEAD_ROOM};
 
 // Standard input, by its number.
@@ -70,8 +70,8 @@ fn end_text(
     ensures { Shown (end_text (taken state (memory sizes.now start.now goal.now actions.now) line.now) room.old) room.new result }
 {
     match finish(state, sizes, start, goal, actions, line, room) {
-        Translation::Written(bytes) => bytes,
-        Translation::Refused(why) => printing::refusal_line(room, why),
+        Ok(bytes) => bytes,
+        Err(why) => printing::refusal_line(room, why),
     }
 }
 

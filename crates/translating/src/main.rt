@@ -8,9 +8,10 @@ ghost use Rattle.std.specs.Prelude.{◌<◌};
 
 use reader::limits::{BYTE_VALUES, MAX_VARIABLES};
 use refusals::{detail_of, number_of};
+use rules::Refusal;
 use std::io::Read;
 use translator::ending::finish;
-use translator::intake::{Intake, Translation, begin, take_bytes};
+use translator::intake::{Intake, begin, take_bytes};
 use translator::room::{ACTIONS_ROOM, GOAL_ROOM, HEAD_ROOM};
 use translator::translate;
 
@@ -41,7 +42,7 @@ fn take_pieces(
     state
 }
 
-fn in_pieces(text: &[u8], piece: usize, room: &mut [u8]) -> Translation
+fn in_pieces(text: &[u8], piece: usize, room: &mut [u8]) -> Result<usize, Refusal>
     requires { 0 < piece }
 {
     let mut sizes = [0u8; MAX_VARIABLES];
@@ -61,7 +62,7 @@ fn in_pieces(text: &[u8], piece: usize, room: &mut [u8]) -> Translation
     finish(state, &sizes, &start, &goal, &actions, &line, room)
 }
 
-fn answer_to(text: &[u8], piece: usize, room: &mut [u8]) -> Translation {
+fn answer_to(text: &[u8], piece: usize, room: &mut [u8]) -> Result<usize, Refusal> {
     if piece == 0 {
         return translate(text, room);
     }
@@ -78,8 +79,8 @@ fn reply(output: &impl Print, number: usize, detail: usize, room: &[u8]) -> Opti
 fn reply_to(output: &impl Print, text: &[u8], piece: usize, room: &mut [u8]) -> Option<()> {
     room.fill(FILLED);
     match answer_to(text, piece, room) {
-        Translation::Written(_) => reply(output, 0, 0, room),
-        Translation::Refused(why) => reply(output, number_of(why), detail_of(why), room),
+        Ok(_) => reply(output, 0, 0, room),
+        Err(why) => reply(output, number_of(why), detail_of(why), room),
     }
 }
 

@@ -12,13 +12,12 @@ use borrow.Author.Tests.{eq-eqb, ne_eqb, le-leb, leb-true}
 use lib.Dec.{eqb, leb}
 use lib.ListN.{length, get_or, take, drop, set, length-drop, drop_of_length-le}
 use lib.Seq.{drop-cons, get_or-drop, take_all as take_whole}
-use Rattle.std.specs.Prelude.{Option, None, Some}
+use Rattle.std.specs.Prelude.{Option, None, Some, Ok, Err}
 use Rattle.std.specs.Option.{MatchOption, unwrap_or}
 use Rattle.std.specs.List.{AllWithin, HoldsAt}
 use Rattle.rules.specs.Text.{lf}
 use Rattle.rules.specs.declared.Refusal.{Refusal}
 use Rattle.rules.specs.declared.Refusal.TheVariants.{Room}
-use Rattle.rules.specs.declared.Verdict.TheVariants.{Accepted, Refused}
 use Rattle.rules.proofs.Bools.{clash, and_left, and_right, not_true, not_false}
 use Rattle.translator.specs.Intake.{Memory, head_room, Taken, taken, end_line, with_held, take_byte, take_all, SameRest, HeldUpTo, Passed, no_lf, block, half_block, quarter_block, block_passes, PassedUpTo, HeldLine, has_room, refused_for, take_call}
 use Rattle.translator.specs.declared.intake.Intake.{Intake}
@@ -45,7 +44,7 @@ module _ (bytes : List ℕ) (at held : ℕ) (line : List ℕ) where
 
   module _ (n h : ℕ) (l : List ℕ) (rest : SameRest bytes at held line n h l) where
     rest_on : (h' : ℕ) (l' : List ℕ) → n < length bytes
-        → ((i : Intake) (m : Memory) → i.verdict ≡ Accepted → take_byte (taken (with_held h i) m l) (get_or bytes n 0) ≡ taken (with_held h' i) m l')
+        → ((i : Intake) (m : Memory) → i.verdict ≡ Ok tt → take_byte (taken (with_held h i) m l) (get_or bytes n 0) ≡ taken (with_held h' i) m l')
         → SameRest bytes at held line (n + 1) h' l'
     unfolding SameRest
     rest_on h' l' k o i m e =
@@ -172,7 +171,7 @@ module _ (bytes : List ℕ) (at : ℕ) where
 -- ---- a line
 
 module _ (i : Intake) (line bytes : List ℕ) (at : ℕ) where
-  pub refused_holds : (why : Refusal) → i.verdict ≡ Refused why → at ≤ length bytes → i.held ≤ head_room → HeldLine i line bytes at i (length bytes) line
+  pub refused_holds : (why : Refusal) → i.verdict ≡ Err why → at ≤ length bytes → i.held ≤ head_room → HeldLine i line bytes at i (length bytes) line
   refused_holds why e f h =
       record {
         from = f;
@@ -184,7 +183,7 @@ module _ (i : Intake) (line bytes : List ℕ) (at : ℕ) where
             λ m. bytes_stay (taken i m line) why (drop (length bytes) bytes) e ∙ sym (bytes_stay (taken i m line) why (drop at bytes) e);
       }
 
-  pub line_holds : (end h : ℕ) (l : List ℕ) (then : Intake) → i.verdict ≡ Accepted → HeldUpTo bytes at i.held line end h l → then ≡ with_held h i
+  pub line_holds : (end h : ℕ) (l : List ℕ) (then : Intake) → i.verdict ≡ Ok tt → HeldUpTo bytes at i.held line end h l → then ≡ with_held h i
       → HeldLine i line bytes at then end l
   unfolding SameRest
   line_holds end h l then v u e =
@@ -215,7 +214,7 @@ further_on t u whole bytes n k e f = e ∙ f
 -- ---- the call
 
 module _ (i : Intake) (m : Memory) (line bytes : List ℕ) (r : Bool) (room : r ≡ has_room (taken i m line)) where
-  pub call_short : (s : Intake) → not r ≡ true → s ≡ refused_for (Refused Room) i → taken s m line ≡ take_call (taken i m line) bytes
+  pub call_short : (s : Intake) → not r ≡ true → s ≡ refused_for (Err Room) i → taken s m line ≡ take_call (taken i m line) bytes
   unfolding take_call
   call_short s h e = rw (sym room ∙ not_true r h, e)
 

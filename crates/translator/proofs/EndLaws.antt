@@ -1,5 +1,6 @@
 -- The end of a text: its last line, the verdict, and the file.
 -- Assumes nothing.
+use Rattle.std.specs.Prelude.{Ok, Err}
 use Prim.Native.Nat.{ℕ, ◌*◌, ◌≤◌}
 use mathlib.Core.Path.{◌≡◌, sym, ap, ◌∙◌}
 use mathlib.Core.Bool.{true}
@@ -10,13 +11,11 @@ use lib.Dec.{leb}
 use lib.ListN.{length, take}
 use lib.Seq.{length-take-le}
 use Rattle.rules.specs.Limits.{pair_bytes, max_file}
-use Rattle.rules.specs.Answers.{judge, demand, in_turn}
+use Rattle.rules.specs.Answers.{judge, demand, in_turn, Verdict}
 use Rattle.rules.specs.Calls.{room_rule, lent_after}
 use Rattle.rules.specs.Format.{shape_of}
 use Rattle.rules.specs.Translation.{is_end}
 use Rattle.rules.specs.declared.Refusal.TheVariants.{Room, BodyLength, ActionAtFault}
-use Rattle.rules.specs.declared.Verdict.{Verdict}
-use Rattle.rules.specs.declared.Verdict.TheVariants.{Accepted, Refused}
 use Rattle.rules.specs.declared.FormatLine.{FormatLine}
 use Rattle.rules.specs.declared.FormatLine.TheVariants.{EndOfText}
 use Rattle.rules.proofs.Judging.{judge_head, in_turn-right, refused_not}
@@ -65,13 +64,13 @@ module _ (k : Kept) (s : Sound k) (sizes start goal actions : List ℕ) (l : Len
 -- ---- the verdict
 
 module _ (k : Kept) (m : Memory) (room : ℕ) where
-  pub verdict_lengths : k.excess ≡ Lengths → Refused BodyLength ≡ verdict_kept k.excess k m room
+  pub verdict_lengths : k.excess ≡ Lengths → Err BodyLength ≡ verdict_kept k.excess k m room
   verdict_lengths e = ap (λ x. verdict_kept x k m room) (sym e)
 
-  pub verdict_actions : (r v : Verdict) → k.excess ≡ Actions → v ≡ rules_kept k m → r ≡ in_turn v (Refused (ActionAtFault k.actions))
+  pub verdict_actions : (r v : Verdict) → k.excess ≡ Actions → v ≡ rules_kept k m → r ≡ in_turn v (Err (ActionAtFault k.actions))
       → r ≡ verdict_kept k.excess k m room
   verdict_actions r v e f h =
-      h ∙ ap (λ v. in_turn v (Refused (ActionAtFault k.actions))) f ∙ ap (λ x. verdict_kept x k m room) (sym e)
+      h ∙ ap (λ v. in_turn v (Err (ActionAtFault k.actions))) f ∙ ap (λ x. verdict_kept x k m room) (sym e)
 
 pub verdict_within : (k : Kept) (sizes start goal actions : List ℕ) (room : ℕ) (r v w : Verdict) (needed : ℕ)
     → Sound k → Lent (memory sizes start goal actions) → k.excess ≡ Within → v ≡ rules_kept k (memory sizes start goal actions)
@@ -85,15 +84,15 @@ verdict_within k sizes start goal actions room r v w needed s l e f n g h =
 
 -- ---- the file
 
-room_holds : (needed room : ℕ) → judge (room_rule needed room) ≡ Accepted → needed ≤ room
+room_holds : (needed room : ℕ) → judge (room_rule needed room) ≡ Ok tt → needed ≤ room
 room_holds needed room h = leb-true needed room (judge_head (demand (leb needed room) Room) [] h)
 
-kept_holds : (x : Excess) (k : Kept) (m : Memory) (room : ℕ) → verdict_kept x k m room ≡ Accepted → length (file_kept k m) ≤ room
+kept_holds : (x : Excess) (k : Kept) (m : Memory) (room : ℕ) → verdict_kept x k m room ≡ Ok tt → length (file_kept k m) ≤ room
 kept_holds Within k m room h = room_holds (length (file_kept k m)) room (in_turn-right (rules_kept k m) (judge (room_rule (length (file_kept k m)) room)) h)
 kept_holds Lengths k m room h = refused_not h
-kept_holds Actions k m room h = refused_not (in_turn-right (rules_kept k m) (Refused (ActionAtFault k.actions)) h)
+kept_holds Actions k m room h = refused_not (in_turn-right (rules_kept k m) (Err (ActionAtFault k.actions)) h)
 
-pub file_holds : (i : Intake) (m : Memory) (room : ℕ) (v : Verdict) → v ≡ verdict_at_end i m room → v ≡ Accepted → length (file_kept i.kept m) ≤ room
+pub file_holds : (i : Intake) (m : Memory) (room : ℕ) (v : Verdict) → v ≡ verdict_at_end i m room → v ≡ Ok tt → length (file_kept i.kept m) ≤ room
 unfolding verdict_at_end
 file_holds i m room v e a =
     kept_holds i.kept.excess i.kept m room
@@ -127,6 +126,6 @@ module _ (k : Kept) (sizes start goal actions : List ℕ) (b : Memory) (e : b �
   file_long end f = f ∙ ap (λ b. length (laid_out b.sizes b.start b.goal b.actions)) e
 
   pub file_left : (room after : List ℕ) → after ≡ over room 0 (laid_out b.sizes b.start b.goal b.actions)
-      → after ≡ lent_after Accepted (file_kept k (memory sizes start goal actions)) room
+      → after ≡ lent_after (Ok tt) (file_kept k (memory sizes start goal actions)) room
   unfolding file_kept
   file_left room after f = f ∙ ap (λ b. over room 0 (laid_out b.sizes b.start b.goal b.actions)) e ∙ written_front room _

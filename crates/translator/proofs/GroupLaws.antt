@@ -1,5 +1,6 @@
 -- The facts of a mutex group: each that ends is one less, and a reading goes on behind those that were read.
 -- Assumes nothing.
+use Rattle.std.specs.Prelude.{Ok}
 use Prim.Native.Nat.{ℕ, ◌+◌, ◌-◌, ◌≤◌, ◌<◌}
 use mathlib.Core.Path.{◌≡◌, refl, sym, ap, ap₂, ◌∙◌}
 use mathlib.Core.Bool.{Bool, true, false, not, ◌&&◌}
@@ -10,8 +11,7 @@ use lib.Dec.{ltb}
 use lib.ListN.{length, get_or, take, drop}
 use Rattle.rules.specs.declared.FormatLine.{FormatLine}
 use Rattle.rules.specs.declared.FormatLine.TheVariants.{MutexFact}
-use Rattle.rules.specs.declared.Verdict.{Verdict}
-use Rattle.rules.specs.declared.Verdict.TheVariants.{Accepted}
+use Rattle.rules.specs.Answers.{Verdict}
 use Rattle.rules.proofs.Bools.{not_true, not_false, and_left, and_right}
 use Rattle.textlines.specs.Says.{is_fact}
 use Rattle.textlines.proofs.ShapeLaws.{group_fact}
@@ -105,10 +105,10 @@ abbrev as_it_is : Intake → FormatLine → Verdict → Intake
 as_it_is i due verdict = record { position = to due i.position; lines = i.lines; verdict = verdict; kept = i.kept; held = i.held }
 
 module _ (i : Intake) (line bytes : List ℕ) (at : ℕ) where
-  stands : i.verdict ≡ Accepted → i.position.line ≡ MutexFact → among_facts (facts at i.held i.position.inner i.lines) i ≡ i
+  stands : i.verdict ≡ Ok tt → i.position.line ≡ MutexFact → among_facts (facts at i.held i.position.inner i.lines) i ≡ i
   stands v d = ap₂ (as_it_is i) (sym d) (sym v)
 
-  pub facts_taken : (then : Intake) (f : Facts) (l : List ℕ) → i.verdict ≡ Accepted → i.position.line ≡ MutexFact
+  pub facts_taken : (then : Intake) (f : Facts) (l : List ℕ) → i.verdict ≡ Ok tt → i.position.line ≡ MutexFact
       → AllRead bytes (facts at i.held i.position.inner i.lines) line f l → then ≡ among_facts f i → FactsTaken i line bytes at then f.at l
   unfolding SameFacts
   facts_taken then f l v d r e =

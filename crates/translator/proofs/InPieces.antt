@@ -9,7 +9,7 @@ use native.Mathlib.Omega.{arith}
 use borrow.Author.Tests.{eq-eqb, ne_eqb, eqb-true, eqb-false, lt-ltb, le-ltb}
 use lib.Dec.{eqb, ltb}
 use lib.ListN.{length, take, set}
-use Rattle.rules.specs.Answers.{judge}
+use Rattle.rules.specs.Answers.{judge, Verdict}
 use Rattle.rules.specs.Text.{lf}
 use Rattle.rules.specs.Format.{Shape, line_rules}
 use Rattle.rules.specs.Translation.{TextReading, text_begun, shape_due, line_read, read_text_line, read_further, read_text_lines, read_text}
@@ -17,8 +17,6 @@ use Rattle.rules.specs.declared.FormatLine.{FormatLine}
 use Rattle.std.specs.Prelude.{Result, Ok, Err}
 use Rattle.rules.specs.declared.Refusal.{Refusal}
 use Rattle.textlines.specs.declared.Numbers.{Numbers}
-use Rattle.rules.specs.declared.Verdict.{Verdict}
-use Rattle.rules.specs.declared.Verdict.TheVariants.{Accepted, Refused}
 use Rattle.rules.proofs.Bools.{either, below_or}
 use Rattle.rules.proofs.Cut.{lines_ahead, ahead_first, ahead_none, ahead_last, ahead_lf, ahead_byte, lines_most, Holds, holds_none, holds_more, holds_full}
 use Rattle.textlines.specs.Says.{says_as}
@@ -43,9 +41,9 @@ taken_nothing t = refl
 
 -- ---- the first fault ends both readings
 
-pub by_verdict : (v : Verdict) (X : Type 0) → (v ≡ Accepted → X) → ((why : Refusal) → v ≡ Refused why → X) → X
-by_verdict Accepted X f g = f refl
-by_verdict (Refused why) X f g = g why refl
+pub by_verdict : (v : Verdict) (X : Type 0) → (v ≡ Ok tt → X) → ((why : Refusal) → v ≡ Err why → X) → X
+by_verdict (Ok _) X f g = f refl
+by_verdict (Err why) X f g = g why refl
 
 pub chosen-true {ℓ} : {X : Type ℓ} (b : Bool) (x y : X) → b ≡ true → cond b x y ≡ x
 chosen-true b x y e = rw e
@@ -56,21 +54,21 @@ chosen-false b x y e = rw e
 abbrev step : TextReading → List ℕ → TextReading
 step reading line = read_further reading.verdict reading line
 
-step_reads : (reading : TextReading) (line : List ℕ) → reading.verdict ≡ Accepted → step reading line ≡ read_text_line reading line
+step_reads : (reading : TextReading) (line : List ℕ) → reading.verdict ≡ Ok tt → step reading line ≡ read_text_line reading line
 step_reads reading line e = ap (λ v. read_further v reading line) e
 
-lines_stay : (reading : TextReading) (why : Refusal) (ls : List (List ℕ)) → reading.verdict ≡ Refused why → foldl step reading ls ≡ reading
+lines_stay : (reading : TextReading) (why : Refusal) (ls : List (List ℕ)) → reading.verdict ≡ Err why → foldl step reading ls ≡ reading
 lines_stay reading why [] e = refl
 lines_stay reading why (l ∷ ls) e =
     ap (λ r. foldl step r ls) (ap (λ v. read_further v reading l) e) ∙ lines_stay reading why ls e
 
-pub bytes_stay : (t : Taken) (why : Refusal) (bytes : List ℕ) → t.intake.verdict ≡ Refused why → take_all t bytes ≡ t
+pub bytes_stay : (t : Taken) (why : Refusal) (bytes : List ℕ) → t.intake.verdict ≡ Err why → take_all t bytes ≡ t
 unfolding take_all take_byte
 bytes_stay t why [] e = refl
 bytes_stay t why (b ∷ bytes) e =
     ap (λ u. take_all u bytes) (unless_refused_lem t.intake.verdict why _ t e) ∙ bytes_stay t why bytes e
 
-last_stays : (t : Taken) (why : Refusal) → t.intake.verdict ≡ Refused why → last_kept t ≡ t
+last_stays : (t : Taken) (why : Refusal) → t.intake.verdict ≡ Err why → last_kept t ≡ t
 unfolding last_kept end_line
 last_stays t why e =
     ⊎_elim (chosen-true (eqb t.intake.held 0) t (end_line t))
@@ -79,7 +77,7 @@ last_stays t why e =
 
 -- ---- a byte
 
-module _ (t : Taken) (b : ℕ) (v : t.intake.verdict ≡ Accepted) where
+module _ (t : Taken) (b : ℕ) (v : t.intake.verdict ≡ Ok tt) where
   pub byte_ends : b ≡ lf → take_byte t b ≡ end_line t
   unfolding take_byte
   byte_ends e = unless_accepted t.intake.verdict _ t v ∙ chosen-true (eqb b lf) _ _ (eq-eqb b lf e)
@@ -105,7 +103,7 @@ holds_after : (said : Result Numbers Refusal) (due : FormatLine) (i : Intake) (m
 holds_after (Ok said) due i m line h = holds_none head_room line h
 holds_after (Err why) due i m line h = holds_none head_room line h
 
-holds_ended : (t : Taken) → t.intake.verdict ≡ Accepted → head_room ≤ length t.line
+holds_ended : (t : Taken) → t.intake.verdict ≡ Ok tt → head_room ≤ length t.line
     → Holds head_room (end_line t).intake.held (end_line t).line []
 unfolding end_line
 holds_ended t v h =
@@ -117,16 +115,16 @@ holds_ended t v h =
 -- ---- a line counts for one at most
 
 said_lines : (v : Verdict) (shape : Shape) (reading : TextReading) (line : List ℕ) → (line_read v shape reading line).lines ≤ suc reading.lines
-said_lines Accepted shape reading line = omega arith
-said_lines (Refused why) shape reading line = omega arith
+said_lines (Ok _) shape reading line = omega arith
+said_lines (Err why) shape reading line = omega arith
 
 read_lines_lem : (reading : TextReading) (line : List ℕ) → (read_text_line reading line).lines ≤ suc reading.lines
 unfolding read_text_line
 read_lines_lem reading line = said_lines (judge (line_rules (shape_due reading) (suc reading.lines) line)) (shape_due reading) reading line
 
 further_lines : (v : Verdict) (reading : TextReading) (line : List ℕ) → (read_further v reading line).lines ≤ suc reading.lines
-further_lines Accepted reading line = read_lines_lem reading line
-further_lines (Refused why) reading line = omega arith
+further_lines (Ok _) reading line = read_lines_lem reading line
+further_lines (Err why) reading line = omega arith
 
 pub all_lines : (reading : TextReading) (ls : List (List ℕ)) → (foldl step reading ls).lines ≤ reading.lines + length ls
 all_lines reading [] = omega arith
@@ -146,14 +144,14 @@ abbrev Read : List ℕ → TextReading → Taken → List ℕ → Type 0
 Read bytes reading t begun = Simulates (foldl step reading (lines_ahead begun bytes)) (last_kept (take_all t bytes))
 
 module _ (reading : TextReading) (t : Taken) (s : Simulates reading t) where
-  read_refused : (bytes begun : List ℕ) (why : Refusal) → reading.verdict ≡ Refused why → Read bytes reading t begun
+  read_refused : (bytes begun : List ℕ) (why : Refusal) → reading.verdict ≡ Err why → Read bytes reading t begun
   read_refused bytes begun why e =
       simulates_as (foldl step reading (lines_ahead begun bytes)) reading (last_kept (take_all t bytes)) t
       (lines_stay reading why (lines_ahead begun bytes) e)
       (ap last_kept (bytes_stay t why bytes (s.verdict ∙ e)) ∙ last_stays t why (s.verdict ∙ e))
       s
 
-  read_end : (begun : List ℕ) → reading.verdict ≡ Accepted → reading.lines < most_lines → Holds head_room t.intake.held t.line begun → Read [] reading t begun
+  read_end : (begun : List ℕ) → reading.verdict ≡ Ok tt → reading.lines < most_lines → Holds head_room t.intake.held t.line begun → Read [] reading t begun
   unfolding take_all last_kept
   read_end [] v l h =
       simulates_as _ reading _ t (ap (foldl step reading) ahead_none)
@@ -165,7 +163,7 @@ module _ (reading : TextReading) (t : Taken) (s : Simulates reading t) where
       (chosen-false (eqb t.intake.held 0) t (end_line t) (ne_eqb t.intake.held 0 (λ e. omega (arith, h.much))))
       (simulates_line reading t s (b ∷ begun) v l h.same)
 
-  read_lf : (bytes begun : List ℕ) (b : ℕ) → b ≡ lf → reading.verdict ≡ Accepted → Read bytes (read_text_line reading begun) (end_line t) []
+  read_lf : (bytes begun : List ℕ) (b : ℕ) → b ≡ lf → reading.verdict ≡ Ok tt → Read bytes (read_text_line reading begun) (end_line t) []
       → Read (b ∷ bytes) reading t begun
   unfolding take_all
   read_lf bytes begun b e v rest =

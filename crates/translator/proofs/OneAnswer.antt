@@ -2,9 +2,8 @@
 -- them together.
 -- Assumes nothing.
 use mathlib.Core.Path.{◌≡◌, sym, ◌∙◌}
-use Rattle.translator.specs.Intake.{memory, taken, ended}
+use Rattle.translator.specs.Intake.{memory, taken, ended, Translation}
 use Rattle.translator.specs.declared.intake.Intake.{Intake}
-use Rattle.translator.specs.declared.intake.Translation.{Translation}
 use Rattle.translator.proofs.intake.begin.Reads as begin
 use Rattle.translator.proofs.intake.take_bytes.Reads as take-bytes
 use Rattle.translator.proofs.ending.finish.Reads as finish

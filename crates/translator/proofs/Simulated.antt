@@ -1,5 +1,6 @@
 -- The rules' reading of a text and the one that keeps a position and bytes go together, line by line.
 -- Assumes nothing.
+use Rattle.std.specs.Prelude.{Ok, Err}
 use mathlib.Core.Path.{◌≡◌, refl, sym, ap, ◌∙◌}
 use mathlib.Core.Logic.{⊎_elim}
 use mathlib.Core.Bool.{true, false}
@@ -7,15 +8,13 @@ use mathlib.Core.List.{List, ◌++◌, tail}
 use Prim.Native.Nat.{ℕ, suc, ◌<◌}
 use native.Mathlib.Omega.{arith}
 use lib.ListN.{length, take, get_or}
-use Rattle.rules.specs.Answers.{judge}
+use Rattle.rules.specs.Answers.{judge, Verdict}
 use Rattle.rules.specs.Task.{Pair}
 use Rattle.rules.specs.Format.{Stated, no_action, with_size, with_start, with_goal, with_precondition, with_effect, with_action, shape_of, line_rules, line_number, has_old, old_fact, new_fact, fact_in, lines_announced, stated}
 use Rattle.rules.specs.Translation.{TextReading, shape_due, line_read, read_text_line, is_end}
 use Rattle.rules.specs.declared.FormatLine.{FormatLine}
 use Rattle.rules.specs.declared.FormatLine.TheVariants.{BeginVersion, Version, EndVersion, BeginMetric, Metric, EndMetric, VariableCount, BeginVariable, VariableName, AxiomLayer, Range, AtomName, EndVariable, MutexGroupCount, BeginMutexGroup, MutexFactCount, MutexFact, EndMutexGroup, BeginState, StateValue, EndState, BeginGoal, GoalCount, GoalFact, EndGoal, OperatorCount, BeginOperator, OperatorName, PrevailCount, PrevailCondition, EffectCount, Effect, Cost, EndOperator, AxiomCount, EndOfText}
 use Rattle.rules.specs.declared.Refusal.{Refusal}
-use Rattle.rules.specs.declared.Verdict.{Verdict}
-use Rattle.rules.specs.declared.Verdict.TheVariants.{Accepted, Refused}
 use Rattle.rules.proofs.Bools.{either}
 use Rattle.textlines.specs.Says.{numbers_in, said_by, shape_says, says_as}
 use Rattle.textlines.proofs.Deciding.{decided_by_head}
@@ -182,10 +181,10 @@ follows_end s p k f e = stands_end (line_due p) s e f.stands
 -- ---- the two readings
 
 -- the first fault ends a reading
-pub unless_accepted : (v : Verdict) (next t : Taken) → v ≡ Accepted → unless_refused v next t ≡ next
+pub unless_accepted : (v : Verdict) (next t : Taken) → v ≡ Ok tt → unless_refused v next t ≡ next
 unless_accepted v next t e = ap (λ x. unless_refused x next t) e
 
-pub unless_refused_lem : (v : Verdict) (why : Refusal) (next t : Taken) → v ≡ Refused why → unless_refused v next t ≡ t
+pub unless_refused_lem : (v : Verdict) (why : Refusal) (next t : Taken) → v ≡ Err why → unless_refused v next t ≡ t
 unless_refused_lem v why next t e = ap (λ x. unless_refused x next t) e
 
 pub record Simulates (reading : TextReading) (t : Taken) : Type 0 where
@@ -205,7 +204,7 @@ module _ (reading : TextReading) (t : Taken) (h : Simulates reading t) where
       → judge (line_rules (shape_of (line_due t.intake.position)) (suc reading.lines) text) ≡ v
       → Simulates (line_read v (shape_of (line_due t.intake.position)) reading text)
       (after_line (said_by v (numbers_in (shape_of (line_due t.intake.position)) text)) (line_due t.intake.position) t.intake t.memory t.line)
-  simulates_said text Accepted l e =
+  simulates_said text (Ok _) l e =
       let p : Position = t.intake.position in
       let on : is_end (shape_of (line_due p)) ≡ false = no_end (shape_of (line_due p)) (suc reading.lines) text e in
       record {
@@ -214,10 +213,10 @@ module _ (reading : TextReading) (t : Taken) (h : Simulates reading t) where
         due = ap (λ ls. lines_announced (shape_of (line_due p)) text ++ tail ls) h.due ∙ sym (moved p text on);
         follows = follows_line reading.stated p (kept_in t.intake.kept t.memory) text on h.follows;
       }
-  simulates_said text (Refused why) l e = record { verdict = refl; lines = h.lines; due = h.due; follows = h.follows }
+  simulates_said text (Err why) l e = record { verdict = refl; lines = h.lines; due = h.due; follows = h.follows }
 
   -- the first bytes of a line, held, are read as the line
-  line_ends : (text : List ℕ) → reading.verdict ≡ Accepted → reading.lines < most_lines → take t.intake.held t.line ≡ take head_room text
+  line_ends : (text : List ℕ) → reading.verdict ≡ Ok tt → reading.lines < most_lines → take t.intake.held t.line ≡ take head_room text
       → end_line t
       ≡ after_line (says_as (line_due t.intake.position) (suc reading.lines) text) (line_due t.intake.position) t.intake t.memory t.line
   unfolding end_line
@@ -235,7 +234,7 @@ module _ (reading : TextReading) (t : Taken) (h : Simulates reading t) where
   unfolding read_text_line shape_due
   line_read_lem text = ap (λ due. line_read (judge (line_rules (shape_of due) (suc reading.lines) text)) (shape_of due) reading text) due_next
 
-  pub simulates_line : (text : List ℕ) → reading.verdict ≡ Accepted → reading.lines < most_lines → take t.intake.held t.line ≡ take head_room text
+  pub simulates_line : (text : List ℕ) → reading.verdict ≡ Ok tt → reading.lines < most_lines → take t.intake.held t.line ≡ take head_room text
       → Simulates (read_text_line reading text) (end_line t)
   unfolding says_as shape_says
   simulates_line text v l same =

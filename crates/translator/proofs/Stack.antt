@@ -1,5 +1,6 @@
 -- The list of lines that a position stands for: it begins with the line that is due, and a line in order does to it what the rules do to theirs.
 -- Assumes nothing.
+use Rattle.std.specs.Prelude.{Ok}
 use mathlib.Core.Path.{◌≡◌, refl, sym, ◌∙◌}
 use mathlib.Core.Bool.{false}
 use mathlib.Core.List.{List, [], ◌∷◌, ◌++◌, tail, append-nil, append_assoc}
@@ -15,7 +16,6 @@ use Rattle.rules.specs.Translation.{is_end}
 use Rattle.rules.specs.declared.FormatLine.{FormatLine}
 use Rattle.rules.specs.declared.FormatLine.TheVariants.{BeginVersion, Version, EndVersion, BeginMetric, Metric, EndMetric, VariableCount, BeginVariable, VariableName, AxiomLayer, Range, AtomName, EndVariable, MutexGroupCount, BeginMutexGroup, MutexFactCount, MutexFact, EndMutexGroup, BeginState, StateValue, EndState, BeginGoal, GoalCount, GoalFact, EndGoal, OperatorCount, BeginOperator, OperatorName, PrevailCount, PrevailCondition, EffectCount, Effect, Cost, EndOperator, AxiomCount, EndOfText}
 use Rattle.rules.specs.declared.Refusal.TheVariants.{AgainstFormat}
-use Rattle.rules.specs.declared.Verdict.TheVariants.{Accepted}
 use Rattle.rules.proofs.Bools.{clash}
 use Rattle.rules.proofs.Judging.{judge_head}
 use Rattle.textlines.specs.Says.{numbers_in}
@@ -204,7 +204,7 @@ moves_from AxiomCount i o n text e = refl
 moves_from EndOfText i o n text e = clash refl e
 
 -- no line is in order at the end
-pub no_end : (shape : Shape) (at : ℕ) (text : List ℕ) → judge (line_rules shape at text) ≡ Accepted → is_end shape ≡ false
+pub no_end : (shape : Shape) (at : ℕ) (text : List ℕ) → judge (line_rules shape at text) ≡ Ok tt → is_end shape ≡ false
 unfolding line_rules
 no_end (keyword word) at text e = refl
 no_end name at text e = refl

@@ -6,9 +6,8 @@ use mathlib.Core.List.{List}
 use lib.ListN.{length}
 use Rattle.rules.specs.File.{file_of}
 use Rattle.rules.specs.Translation.{text_task, translation_verdict, translation_after}
-use Rattle.translator.specs.Intake.{Memory, Lent, most_lines, head_room, taken, take_call, begun, translation, ended, finish_call}
+use Rattle.translator.specs.Intake.{Memory, Lent, most_lines, head_room, taken, take_call, begun, translation, ended, finish_call, Translation}
 use Rattle.translator.specs.declared.intake.Intake.{Intake}
-use Rattle.translator.specs.declared.intake.Translation.{Translation}
 use Rattle.translator.proofs.WholeText.{Translated, translated_whole}
 
 module _ (text room : List ℕ) (m then : Memory) (line held after : List ℕ) (i j : Intake) (r : Translation) where

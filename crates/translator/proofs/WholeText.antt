@@ -11,7 +11,7 @@ use lib.Dec.{eqb}
 use lib.ListN.{length, take, length-set}
 use Rattle.rules.specs.Counting.{joined}
 use Rattle.rules.specs.Limits.{max_variables, max_goals, max_actions, max_pairs, max_action, contents_bytes}
-use Rattle.rules.specs.Answers.{demand, judge, in_turn}
+use Rattle.rules.specs.Answers.{demand, judge, in_turn, Verdict}
 use Rattle.rules.specs.Task.{task_rules}
 use Rattle.rules.specs.File.{contents_from, file_of}
 use Rattle.rules.specs.Text.{lf}
@@ -24,8 +24,6 @@ use Rattle.rules.specs.declared.FormatLine.TheVariants.{BeginVersion, Version, E
 use Rattle.std.specs.Prelude.{Result, Ok, Err}
 use Rattle.rules.specs.declared.Refusal.{Refusal}
 use Rattle.rules.specs.declared.Refusal.TheVariants.{ActionAtFault, AgainstFormat}
-use Rattle.rules.specs.declared.Verdict.{Verdict}
-use Rattle.rules.specs.declared.Verdict.TheVariants.{Accepted, Refused}
 use Rattle.rules.proofs.Bools.{either, below_or}
 use Rattle.rules.proofs.Judging.{refused_not, judge_head, judge_append, in_turn-left, in_turn-right}
 use Rattle.rules.proofs.Cut.{lines_most, holds_none}
@@ -42,28 +40,27 @@ use Rattle.translator.specs.Position.{first_position, unless_over, line_due, mov
 use Rattle.translator.specs.Intake.{Memory, KeptBodies, kept_in, keep_line, most_lines, one_more, Taken, taken, read_on, unless_refused, after_line, end_line, head_room, take_byte, take_all, actions_fit, counts_fit, lent_fits, has_room, Lent, Ready, take_call, begun, last_said, last_line, rules_kept, file_kept, verdict_kept, stops_early, verdict_at_end, end_verdict, translation, Ended, ended, end_with, finish_call}
 use Rattle.translator.specs.declared.position.Position.{Position}
 use Rattle.translator.specs.declared.intake.Intake.{Intake}
-use Rattle.translator.specs.declared.intake.Translation.{Translation}
 use Rattle.translator.proofs.Stack.{lines_due, no_end}
 use Rattle.translator.proofs.Simulated.{unless_accepted, unless_refused_lem, Keeps, Follows, follows_line, follows_end, Simulates, due_next, next_line}
 use Rattle.translator.proofs.InPieces.{last_kept, taken_in_pieces, taken_nothing, by_verdict, chosen-true, byte_ends, byte_held, byte_passed, all_lines, whole}
 
 -- ---- verdicts in turn
 
-in_turn-same : (v a b : Verdict) → (v ≡ Accepted → a ≡ b) → in_turn v a ≡ in_turn v b
-in_turn-same Accepted a b f = f refl
-in_turn-same (Refused why) a b f = refl
+in_turn-same : (v a b : Verdict) → (v ≡ Ok tt → a ≡ b) → in_turn v a ≡ in_turn v b
+in_turn-same (Ok _) a b f = f refl
+in_turn-same (Err why) a b f = refl
 
-in_turn-stops : (v : Verdict) (why : Refusal) (next : Verdict) → in_turn v (Refused why) ≡ in_turn (in_turn v (Refused why)) next
-in_turn-stops Accepted why next = refl
-in_turn-stops (Refused w) why next = refl
+in_turn-stops : (v : Verdict) (why : Refusal) (next : Verdict) → in_turn v (Err why) ≡ in_turn (in_turn v (Err why)) next
+in_turn-stops (Ok _) why next = refl
+in_turn-stops (Err w) why next = refl
 
-in_turn-refuses : (v : Verdict) (why : Refusal) {X : Type 0} → in_turn v (Refused why) ≡ Accepted → X
-in_turn-refuses Accepted why e = refused_not e
-in_turn-refuses (Refused w) why e = refused_not e
+in_turn-refuses : (v : Verdict) (why : Refusal) {X : Type 0} → in_turn v (Err why) ≡ Ok tt → X
+in_turn-refuses (Ok _) why e = refused_not e
+in_turn-refuses (Err w) why e = refused_not e
 
 in_turn-three : (a b c : Verdict) → in_turn a (in_turn b c) ≡ in_turn (in_turn a b) c
-in_turn-three Accepted b c = refl
-in_turn-three (Refused why) b c = refl
+in_turn-three (Ok _) b c = refl
+in_turn-three (Err why) b c = refl
 
 by_excess : (x : Excess) (X : Type 0) → (x ≡ Within → X) → (x ≡ Lengths → X) → (x ≡ Actions → X) → X
 by_excess Within X f g h = f refl
@@ -78,7 +75,7 @@ module _ (s : Stated) (k : Kept) (m : Memory) (h : Keeps s (kept_in k m)) where
   unfolding rules_kept
   kept_within e = verdict_within s k m.sizes m.start m.goal m.actions h.states e
 
-  file_within : k.excess ≡ Within → task_verdict s.task ≡ Accepted → file_kept k m ≡ file_of s.task
+  file_within : k.excess ≡ Within → task_verdict s.task ≡ Ok tt → file_kept k m ≡ file_of s.task
   unfolding file_kept laid_out file_of
   file_within e a =
       ap (λ bodies. contents_from contents_bytes bodies ++ joined bodies) (bodies_within s k m.sizes m.start m.goal m.actions h.states e a)
@@ -105,7 +102,7 @@ module _ (s : Stated) (k : Kept) (m : Memory) (h : Keeps s (kept_in k m)) where
       ∙ ap (λ v. in_turn v needed) (sym (verdict_actions s k m.sizes m.start m.goal m.actions h.states e idle))
       ∙ sym (judge_append (task_rules true (λ a. true) s.task) (room_rule (length (file_of s.task)) room)))
 
-  file_accepted : (room : ℕ) → verdict_kept k.excess k m room ≡ Accepted → file_kept k m ≡ file_of s.task
+  file_accepted : (room : ℕ) → verdict_kept k.excess k m room ≡ Ok tt → file_kept k m ≡ file_of s.task
   file_accepted room a =
       by_excess k.excess (file_kept k m ≡ file_of s.task)
       (λ e. file_within e (sym (kept_within e) ∙ in_turn-left (rules_kept k m) _ (ap (λ x. verdict_kept x k m room) (sym e) ∙ a)))
@@ -137,7 +134,7 @@ module _ (reading : TextReading) (t : Taken) (s : Simulates reading t) (l : read
       ∙ ap (in_turn reading.verdict) (same ∙ ap (λ v. in_turn v task) ends_alike)
       ∙ in_turn-three reading.verdict _ task
 
-  end_file : (room : ℕ) → end_verdict t room ≡ Accepted → file_kept t.intake.kept t.memory ≡ file_of reading.stated.task
+  end_file : (room : ℕ) → end_verdict t room ≡ Ok tt → file_kept t.intake.kept t.memory ≡ file_of reading.stated.task
   unfolding end_verdict verdict_at_end stops_early
   end_file room a =
       file_accepted reading.stated t.intake.kept t.memory s.follows.keeps room
@@ -149,13 +146,13 @@ pub record Translated (text lent : List ℕ) (e : Ended) : Type 0 where
   pub answer : e.answer ≡ translation (translation_verdict text (length lent)) (length (file_of (text_task text)))
   pub room : e.room ≡ translation_after text lent
 
-answered : (v w : Verdict) (file text : List ℕ) → v ≡ w → (v ≡ Accepted → file ≡ text) → translation v (length file) ≡ translation w (length text)
-answered Accepted w file text e f = ap (λ l. translation Accepted (length l)) (f refl) ∙ ap (λ v. translation v (length text)) e
-answered (Refused why) w file text e f = ap (λ v. translation v (length text)) e
+answered : (v w : Verdict) (file text : List ℕ) → v ≡ w → (v ≡ Ok tt → file ≡ text) → translation v (length file) ≡ translation w (length text)
+answered (Ok _) w file text e f = ap (λ l. translation (Ok tt) (length l)) (f refl) ∙ ap (λ v. translation v (length text)) e
+answered (Err why) w file text e f = ap (λ v. translation v (length text)) e
 
-left : (v w : Verdict) (file text room : List ℕ) → v ≡ w → (v ≡ Accepted → file ≡ text) → lent_after v file room ≡ lent_after w text room
-left Accepted w file text room e f = ap (λ l. lent_after Accepted l room) (f refl) ∙ ap (λ v. lent_after v text room) e
-left (Refused why) w file text room e f = ap (λ v. lent_after v text room) e
+left : (v w : Verdict) (file text room : List ℕ) → v ≡ w → (v ≡ Ok tt → file ≡ text) → lent_after v file room ≡ lent_after w text room
+left (Ok _) w file text room e f = ap (λ l. lent_after (Ok tt) l room) (f refl) ∙ ap (λ v. lent_after v text room) e
+left (Err why) w file text room e f = ap (λ v. lent_after v text room) e
 
 ends_translated : (text : List ℕ) (t : Taken) (room : List ℕ) → Simulates (read_text text) t → (read_text text).lines < most_lines → Translated text room (end_with t room)
 unfolding end_with translation_verdict translation_after text_verdict text_task
@@ -216,7 +213,7 @@ nothing_or_on EndOfText said k p = inl refl
 
 -- a text that stops early is refused, whatever is kept
 stops_early_lem : (due : FormatLine) (said : Numbers) (i : Intake) (k : Kept) (m : Memory) (line room : List ℕ) → GoesOn due said i.position
-    → end_with (taken (read_on due said i k) m line) room ≡ ended (Translation.Refused (AgainstFormat (one_more (one_more i.lines)))) room
+    → end_with (taken (read_on due said i k) m line) room ≡ ended (Err (AgainstFormat (one_more (one_more i.lines)))) room
 unfolding end_with end_verdict verdict_at_end stops_early judge
 stops_early_lem due said i k m line room f = rw f refl
 
@@ -259,7 +256,7 @@ going_as t u e g = rw e g
 
 going_said : (t : Taken) (at : ℕ) (text : List ℕ) (v : Verdict) → judge (line_rules (shape_of (line_due t.intake.position)) at text) ≡ v → Going t
     → Going (after_line (said_by v (numbers_in (shape_of (line_due t.intake.position)) text)) (line_due t.intake.position) t.intake t.memory t.line)
-going_said t at text Accepted e g =
+going_said t at text (Ok _) e g =
     let p : Position = t.intake.position in
     record {
       said = stated (shape_of (line_due p)) text g.said;
@@ -267,9 +264,9 @@ going_said t at text Accepted e g =
       held = omega arith;
       line = g.line;
     }
-going_said t at text (Refused why) e g = record { said = g.said; follows = g.follows; held = omega arith; line = g.line }
+going_said t at text (Err why) e g = record { said = g.said; follows = g.follows; held = omega arith; line = g.line }
 
-going_line : (t : Taken) → t.intake.verdict ≡ Accepted → Going t → Going (end_line t)
+going_line : (t : Taken) → t.intake.verdict ≡ Ok tt → Going t → Going (end_line t)
 unfolding end_line says_as shape_says
 going_line t v g =
     going_as _ _ (unless_accepted t.intake.verdict _ t v)

@@ -1,8 +1,7 @@
 -- The facts of a mutex group: read one after the other, they change where the reading stands and nothing else.
 -- Assumes nothing.
-use Rattle.std.specs.Prelude.{ℕ, ◌-◌, ◌≤◌, ◌<◌, ◌≡◌, Bool, false, ◌&&◌, List, ltb, length, get_or, take, drop}
+use Rattle.std.specs.Prelude.{ℕ, ◌-◌, ◌≤◌, ◌<◌, ◌≡◌, Bool, false, ◌&&◌, List, ltb, length, get_or, take, drop, Ok}
 use Rattle.rules.specs.Text.{lf}
-use Rattle.rules.specs.declared.Verdict.TheVariants.{Accepted}
 use Rattle.rules.specs.declared.FormatLine.TheVariants.{MutexFact}
 use Rattle.textlines.specs.Says.{is_fact}
 use Rattle.translator.specs.Position.{repeated}
@@ -16,7 +15,7 @@ facts at held left lines = record { at = at; held = held; left = left; lines = l
 -- a reading that is so far among the facts of its group
 abbrev pub among_facts : Facts → Intake → Intake
 among_facts f i =
-    record { position = repeated MutexFact f.left i.position; lines = f.lines; verdict = Accepted; kept = i.kept; held = f.held }
+    record { position = repeated MutexFact f.left i.position; lines = f.lines; verdict = Ok tt; kept = i.kept; held = f.held }
 
 -- a fact has ended before a place
 unfoldable pub one_read : (next : ℕ) → Facts → Facts

@@ -3,7 +3,7 @@
 use Rattle.std.specs.Prelude.{ℕ, zero, suc, ◌+◌, ◌*◌, ◌-◌, ◌^◌, ◌≤◌, ◌<◌, min, ◌≡◌, Bool, true, not, cond, ◌&&◌, leb, ltb, eqb, length, get_or, take, drop, set, Option, None, Some, Result, Ok, Err}
 use mathlib.Core.List.{List, [], ◌∷◌, foldl}
 use Rattle.rules.specs.Limits.{max_variables, max_goals, max_actions, max_pairs, max_action, pair_bytes}
-use Rattle.rules.specs.Answers.{judge, demand, in_turn}
+use Rattle.rules.specs.Answers.{judge, demand, in_turn, Verdict}
 use Rattle.rules.specs.Task.{Pair}
 use Rattle.rules.specs.Text.{lf}
 use Rattle.rules.specs.Calls.{room_rule, lent_after}
@@ -11,8 +11,6 @@ use Rattle.rules.specs.Format.{shape_of}
 use Rattle.rules.specs.Translation.{is_end}
 use Rattle.rules.specs.declared.Refusal.{Refusal}
 use Rattle.rules.specs.declared.Refusal.TheVariants.{Room, BodyLength, ActionAtFault, AgainstFormat}
-use Rattle.rules.specs.declared.Verdict.{Verdict}
-use Rattle.rules.specs.declared.Verdict.TheVariants.{Accepted, Refused}
 use Rattle.rules.specs.declared.FormatLine.{FormatLine}
 use Rattle.rules.specs.declared.FormatLine.TheVariants.{BeginVersion, Version, EndVersion, BeginMetric, Metric, EndMetric, VariableCount, BeginVariable, VariableName, AxiomLayer, Range, AtomName, EndVariable, MutexGroupCount, BeginMutexGroup, MutexFactCount, MutexFact, EndMutexGroup, BeginState, StateValue, EndState, BeginGoal, GoalCount, GoalFact, EndGoal, OperatorCount, BeginOperator, OperatorName, PrevailCount, PrevailCondition, EffectCount, Effect, Cost, EndOperator, AxiomCount, EndOfText}
 use Rattle.reader.specs.Bodies.{bodies_rules}
@@ -28,7 +26,6 @@ use Rattle.translator.specs.declared.parts.Bodies.{Bodies}
 use Rattle.translator.specs.declared.parts.Parts.{Parts}
 use Rattle.translator.specs.declared.position.Position.{Position}
 use Rattle.translator.specs.declared.intake.Intake.{Intake}
-use Rattle.translator.specs.declared.intake.Translation.{Translation}
 
 -- ---- what is lent: a part for each body, and one for the line that has begun
 
@@ -174,11 +171,11 @@ taken intake m line = record { intake = intake; memory = m; line = line }
 -- a line that was in order has been read, and so much is kept
 abbrev pub read_on : (due : FormatLine) → Numbers → Intake → Kept → Intake
 read_on due said i kept =
-    record { position = moved_on due said.first i.position; lines = one_more i.lines; verdict = Accepted; kept = kept; held = 0 }
+    record { position = moved_on due said.first i.position; lines = one_more i.lines; verdict = Ok tt; kept = kept; held = 0 }
 
 -- a line that was against the rules ends the reading
 abbrev pub stopped_for : Refusal → Intake → Intake
-stopped_for why i = record { position = i.position; lines = i.lines; verdict = Refused why; kept = i.kept; held = 0 }
+stopped_for why i = record { position = i.position; lines = i.lines; verdict = Err why; kept = i.kept; held = 0 }
 
 abbrev pub after_line : Result Numbers Refusal → (due : FormatLine) → Intake → Memory → List ℕ → Taken
 after_line (Ok said) due i m line =
@@ -195,8 +192,8 @@ pub record Ready (t : Taken) : Type 0 where
 
 -- the first fault ends the reading
 abbrev pub unless_refused : Verdict → Taken → Taken → Taken
-unless_refused Accepted next t = next
-unless_refused (Refused why) next t = t
+unless_refused (Ok _) next t = next
+unless_refused (Err why) next t = t
 
 -- the line that is held ends
 unfoldable pub end_line : Taken → Taken
@@ -224,7 +221,7 @@ take_all t bytes = foldl take_byte t bytes
 -- bytes from a place on are held, up to an LF or the end: for every reading what is left comes to the same
 unfoldable pub SameRest : (bytes : List ℕ) (at held : ℕ) (line : List ℕ) (end held_then : ℕ) (line_then : List ℕ) → Type 0
 SameRest bytes at held line end held_then line_then =
-    (i : Intake) (m : Memory) → i.verdict ≡ Accepted
+    (i : Intake) (m : Memory) → i.verdict ≡ Ok tt
     → take_all (taken (with_held held_then i) m line_then) (drop end bytes) ≡ take_all (taken (with_held held i) m line) (drop at bytes)
 
 pub record HeldUpTo (bytes : List ℕ) (at held : ℕ) (line : List ℕ) (end held_then : ℕ) (line_then : List ℕ) : Type 0 where
@@ -266,7 +263,7 @@ block_passes bytes at = leb (at + block) (length bytes) && no_lf bytes at block
 pub record HeldLine (i : Intake) (line bytes : List ℕ) (at : ℕ) (then : Intake) (end : ℕ) (line_then : List ℕ) : Type 0 where
   pub from : at ≤ end
   pub within : end ≤ length bytes
-  pub ends : end < length bytes → (get_or bytes end 0 ≡ lf) × (then.verdict ≡ Accepted)
+  pub ends : end < length bytes → (get_or bytes end 0 ≡ lf) × (then.verdict ≡ Ok tt)
   pub fits : then.held ≤ head_room
   pub kept : then.kept ≡ i.kept
   pub rest : (m : Memory) → take_all (taken then m line_then) (drop end bytes) ≡ take_all (taken i m line) (drop at bytes)
@@ -293,10 +290,10 @@ abbrev pub refused_for : Verdict → Intake → Intake
 refused_for verdict i = record { position = i.position; lines = i.lines; verdict = verdict; kept = i.kept; held = i.held }
 
 unfoldable pub take_call : Taken → List ℕ → Taken
-take_call t bytes = cond (has_room t) (take_all t bytes) (taken (refused_for (Refused Room) t.intake) t.memory t.line)
+take_call t bytes = cond (has_room t) (take_all t bytes) (taken (refused_for (Err Room) t.intake) t.memory t.line)
 
 abbrev pub begun : Intake
-begun = record { position = first_position; lines = 0; verdict = Accepted; kept = nothing_kept; held = 0 }
+begun = record { position = first_position; lines = 0; verdict = Ok tt; kept = nothing_kept; held = 0 }
 
 -- ---- the end: what is lent for the reading stays as it is
 
@@ -326,8 +323,8 @@ file_kept k m = let b : Memory = kept_of k m in laid_out b.sizes b.start b.goal 
 -- refusals 3 to 7, then 10
 abbrev pub verdict_kept : Excess → Kept → Memory → (room : ℕ) → Verdict
 verdict_kept Within k m room = in_turn (rules_kept k m) (judge (room_rule (length (file_kept k m)) room))
-verdict_kept Lengths k m room = Refused BodyLength
-verdict_kept Actions k m room = in_turn (rules_kept k m) (Refused (ActionAtFault k.actions))
+verdict_kept Lengths k m room = Err BodyLength
+verdict_kept Actions k m room = in_turn (rules_kept k m) (Err (ActionAtFault k.actions))
 
 -- a text that stops early is at fault at the line after its last
 unfoldable pub stops_early : Position → (lines : ℕ) → Verdict
@@ -340,9 +337,12 @@ verdict_at_end i m room = in_turn i.verdict (in_turn (stops_early i.position i.l
 unfoldable pub end_verdict : Taken → (room : ℕ) → Verdict
 end_verdict t room = verdict_at_end t.intake t.memory room
 
+abbrev pub Translation : Type 0
+Translation = Result ℕ Refusal
+
 abbrev pub translation : Verdict → (length : ℕ) → Translation
-translation Accepted length = Translation.Written length
-translation (Refused why) length = Translation.Refused why
+translation (Ok _) length = Ok length
+translation (Err why) length = Err why
 
 -- the answer, and the lent room
 pub record Ended : Type 0 where
@@ -364,4 +364,4 @@ pub record EndsWith (i : Intake) (m : Memory) (room : List ℕ) (answer : Transl
   pub leaves : after ≡ lent_after (verdict_at_end i m (length room)) (file_kept i.kept m) room
 
 unfoldable pub finish_call : Taken → (room : List ℕ) → Ended
-finish_call t room = cond (has_room t) (end_with (last_line t) room) (ended (Translation.Refused Room) room)
+finish_call t room = cond (has_room t) (end_with (last_line t) room) (ended (Err Room) room)

@@ -1,14 +1,13 @@
 // The facts of mutex groups, which are most of a large text, are read in a loop of plain numbers.
-ghost use Rattle.std.specs.Prelude.{◌≡◌, ◌≤◌, ◌<◌, length};
+ghost use Rattle.std.specs.Prelude.{◌≡◌, ◌≤◌, ◌<◌, length, Ok};
 ghost use Rattle.rules.specs.declared.FormatLine.TheVariants.{MutexFact};
-ghost use Rattle.rules.specs.declared.Verdict.TheVariants.{Accepted};
 ghost use Rattle.translator.specs.Intake.{head_room};
 ghost use Rattle.translator.specs.Facts.{among_facts, one_read, fact_ends, AllRead, FactsTaken};
 
 use crate::holding::hold;
 use crate::intake::{Further, Intake};
 use crate::lines::one_more;
-use rules::{FormatLine, Verdict};
+use rules::{FormatLine, Refusal};
 
 // How far the facts of a group are read: the next byte that is not taken, how many bytes of a line are held, how many facts are left, how many lines
 // were read.
@@ -71,7 +70,7 @@ impl Intake {
         Intake {
             position: self.position.repeated(FormatLine::MutexFact, facts.left),
             lines: facts.lines,
-            verdict: Verdict::Accepted,
+            verdict: Ok(()),
             held: facts.held,
             ..self
         }
@@ -79,7 +78,7 @@ impl Intake {
 
     // The facts of a mutex group that come next are read.
     pub(crate) fn group_facts(self, line: &mut [u8], bytes: &[u8], at: usize) -> Further
-        requires in_facts { (self.verdict ≡ Accepted) × (self.position.line ≡ MutexFact) }
+        requires in_facts { (self.verdict ≡ Ok tt) × (self.position.line ≡ MutexFact) }
         requires rooms { (self.held ≤ head_room) × (head_room ≤ length line.old) × (at ≤ length bytes.now) }
         ensures { FactsTaken self line.old bytes.now at result.reading result.at line.new }
     {

@@ -1,7 +1,6 @@
 // A whole text in pieces: lines are read as they end; of the line that has begun, its first bytes are held, which decide it.
-ghost use Rattle.std.specs.Prelude.{◌≡◌, ◌≤◌, ◌<◌, length, drop};
+ghost use Rattle.std.specs.Prelude.{◌≡◌, ◌≤◌, ◌<◌, length, drop, Err};
 ghost use Rattle.rules.specs.declared.Refusal.TheVariants.{Room};
-ghost use Rattle.rules.specs.declared.Verdict.TheVariants.{Refused};
 ghost use Rattle.bodies.specs.Keeping.{Sound};
 ghost use Rattle.translator.specs.Intake.{memory, lent_in, SameParts, head_room, taken, Ready, with_held, take_all, HeldLine, refused_for, take_call, begun};
 
@@ -10,7 +9,7 @@ use crate::parts::Parts;
 use crate::position::Position;
 use crate::room::has_room;
 use bodies::Kept;
-use rules::{FormatLine, Refusal, Verdict};
+use rules::{FormatLine, Refusal};
 
 // How far a text is read: where in the format, how many lines, the first fault if there was one, what is kept, and how many bytes are held of the line
 // that has begun.
@@ -18,16 +17,9 @@ use rules::{FormatLine, Refusal, Verdict};
 pub struct Intake {
     pub position: Position,
     pub lines: usize,
-    pub verdict: Verdict,
+    pub verdict: Result<(), Refusal>,
     pub kept: Kept,
     pub held: usize,
-}
-
-// The file's length where it was written, or the refusal.
-#[derive(Clone, Copy)]
-pub enum Translation {
-    Written(usize),
-    Refused(Refusal),
 }
 
 // A reading, and the next byte that it has not taken.
@@ -44,7 +36,7 @@ pub fn begin() -> Intake
     Intake {
         position: Position::first(),
         lines: 0,
-        verdict: Verdict::Accepted,
+        verdict: Ok(()),
         kept: bodies::nothing_kept(),
         held: 0,
     }
@@ -66,7 +58,7 @@ impl Intake {
         ensures { HeldLine self line.old bytes.now at result.reading result.at line.new }
     {
         let verdict = self.verdict;
-        let Verdict::Accepted = verdict else {
+        let Ok(()) = verdict else {
             return Further {
                 reading: self,
                 at: bytes.len(),
@@ -85,7 +77,7 @@ impl Intake {
         ensures { HeldLine self line.old bytes.now at result.reading result.at line.new }
     {
         let verdict = self.verdict;
-        let Verdict::Accepted = verdict else {
+        let Ok(()) = verdict else {
             return self.hold_line(line, bytes, at);
         };
         if !matches!(self.position.line, FormatLine::MutexFact) {
@@ -117,10 +109,10 @@ impl Intake {
 
     // What is lent is no room for the reading.
     fn refused_for_room(self) -> Intake
-        ensures { result ≡ refused_for (Refused Room) self }
+        ensures { result ≡ refused_for (Err Room) self }
     {
         Intake {
-            verdict: Verdict::Refused(Refusal::Room),
+            verdict: Err(Refusal::Room),
             ..self
         }
     }

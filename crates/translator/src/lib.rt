@@ -16,12 +16,12 @@ ghost use Rattle.rules.specs.File.{file_of};
 ghost use Rattle.rules.specs.Translation.{text_task, translation_verdict, translation_after};
 ghost use Rattle.translator.specs.Intake.{translation};
 
-use crate::intake::Translation;
 use crate::room::{ACTIONS_ROOM, GOAL_ROOM, HEAD_ROOM};
 use reader::limits::MAX_VARIABLES;
+use rules::Refusal;
 
 // The task file of a whole text in the room, or the refusal, which leaves the room as found.
-pub fn translate(text: &[u8], room: &mut [u8]) -> Translation
+pub fn translate(text: &[u8], room: &mut [u8]) -> Result<usize, Refusal>
     ensures answer { result ≡ translation (translation_verdict text.now (length room.old)) (length (file_of (text_task text.now))) }
     ensures left { room.new ≡ translation_after text.now room.old }
 {

@@ -9,7 +9,7 @@ use crate::intake::Intake;
 use crate::keeping::keep_line;
 use crate::parts::Parts;
 use bodies::Kept;
-use rules::{FormatLine, Refusal, Verdict};
+use rules::{FormatLine, Refusal};
 use textlines::Numbers;
 
 // A count of lines stays at the largest number that there is.
@@ -27,7 +27,7 @@ impl Intake {
         Intake {
             position: self.position.moved_on(due, said.first),
             lines: one_more(self.lines),
-            verdict: Verdict::Accepted,
+            verdict: Ok(()),
             kept,
             held: 0,
         }
@@ -50,7 +50,7 @@ impl Intake {
         ensures { result ≡ stopped_for why self }
     {
         Intake {
-            verdict: Verdict::Refused(why),
+            verdict: Err(why),
             held: 0,
             ..self
         }
@@ -92,7 +92,7 @@ impl Intake {
         ensures same { SameParts parts.old parts.new }
     {
         let verdict = self.verdict;
-        let Verdict::Accepted = verdict else {
+        let Ok(()) = verdict else {
             return self;
         };
         self.after_line(self.position.line_due(), self.held_says(line), parts)
@@ -119,7 +119,7 @@ impl Intake {
             return self;
         }
         let verdict = self.verdict;
-        let Verdict::Accepted = verdict else {
+        let Ok(()) = verdict else {
             return self;
         };
         self.last_said(self.position.line_due(), self.held_says(line))

@@ -8,11 +8,11 @@ use Rattle.clauses.proofs.print_answer.Goals as goal
 pub slice_bounds-write_all-end : goal.slice_bounds-write_all-end
 slice_bounds-write_all-end c = search (rules, refusal_here)
 
-pub slice_bounds-write_all-end-in-Refused : goal.slice_bounds-write_all-end-in-Refused
-slice_bounds-write_all-end-in-Refused c = search (rules, prefix_long, refusal_here)
+pub slice_bounds-write_all-end-in-Err : goal.slice_bounds-write_all-end-in-Err
+slice_bounds-write_all-end-in-Err c = search (rules, prefix_long, refusal_here)
 
-pub returns-in-Refused : goal.returns-in-Refused
-returns-in-Refused c = search (rules, refusal_counted)
+pub returns-in-Err : goal.returns-in-Err
+returns-in-Err c = search (rules, refusal_counted)
 
 pub fill_index-requires : goal.fill_index-requires
 fill_index-requires c = search (rules, file_accepted)

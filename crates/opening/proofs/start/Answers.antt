@@ -4,8 +4,8 @@ use borrow.Author.Rules.{rules}
 use Rattle.opening.proofs.Begun.{begun_refused, begun_found}
 use Rattle.opening.proofs.start.Goals as goal
 
-pub returns-in-Refused : goal.returns-in-Refused
-returns-in-Refused c = search (rules, begun_refused)
+pub returns-in_err-counts : goal.returns-in_err-counts
+returns-in_err-counts c = search (rules, begun_refused)
 
-pub returns-in-Found : goal.returns-in-Found
-returns-in-Found c = search (rules, begun_found)
+pub returns : goal.returns
+returns c = begun_found _ _ _ _ _ _ _ _ _ c.counts.ensures c.in_ok-counts.was c.start.ensures

@@ -5,8 +5,8 @@ use Rattle.task.proofs.Stated.{file_accepted, indexed}
 use Rattle.schedule.proofs.BackLaws.{checked_problem, checked_room, checked_schedule}
 use Rattle.schedule.proofs.schedule_checked.Goals as goal
 
-pub returns-in_default : goal.returns-in_default
-returns-in_default c = search (rules, checked_problem)
+pub returns-in_err-problem_verdict : goal.returns-in_err-problem_verdict
+returns-in_err-problem_verdict c = search (rules, checked_problem)
 
 pub returns-then-entries-horizon : goal.returns-then-entries-horizon
 returns-then-entries-horizon c = search (rules, checked_room)

@@ -5,8 +5,10 @@ use Rattle.task.proofs.Stated.{file_accepted, horizon_right, indexed}
 use Rattle.schedule.proofs.BackLaws.{problem_wrong}
 use Rattle.schedule.proofs.way_back.Goals as goal
 
-pub returns-in_default : goal.returns-in_default
-returns-in_default c = problem_wrong _ _ _ _ _ _ _ c.problem_verdict-problem.ensures c.in_default.is
+pub returns-in_err-problem_verdict : goal.returns-in_err-problem_verdict
+returns-in_err-problem_verdict c =
+    let (refused, untouched) = problem_wrong _ _ _ _ _ _ _ c.problem_verdict.ensures c.in_err-problem_verdict.was in
+    (search (rules, refused), untouched)
 
 pub fill_index-requires : goal.fill_index-requires
 fill_index-requires c = (search (rules, file_accepted), search rules)

@@ -7,8 +7,8 @@ use Rattle.checker.proofs.end.end_verdict.Goals as goal
 pub returns-then-not-room_fits : goal.returns-then-not-room_fits
 returns-then-not-room_fits c = search (rules, no_room)
 
-pub returns-in_default : goal.returns-in_default
-returns-in_default c = search (rules, status_wrong)
+pub returns-in_err-status_verdict : goal.returns-in_err-status_verdict
+returns-in_err-status_verdict c = search (rules, status_wrong)
 
 pub returns : goal.returns
 returns c = search (rules, status_right)

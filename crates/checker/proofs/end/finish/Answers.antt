@@ -5,23 +5,23 @@ use Rattle.checker.proofs.EndLaws.{early_kept, end_accepted, end_early, end_same
 use borrow.Author.Rules.{rules}
 use Rattle.checker.proofs.end.finish.Goals as goal
 
-pub returns-in_default-clause-value : goal.returns-in_default-clause-value
-returns-in_default-clause-value c = search (rules, end_early)
+pub returns-in_err-problem_verdict-clause-value : goal.returns-in_err-problem_verdict-clause-value
+returns-in_err-problem_verdict-clause-value c = search (rules, end_early)
 
-pub returns-in_default-clause-entries_after : goal.returns-in_default-clause-entries_after
-returns-in_default-clause-entries_after c = search (rules, early_kept)
+pub returns-in_err-problem_verdict-clause-entries_after : goal.returns-in_err-problem_verdict-clause-entries_after
+returns-in_err-problem_verdict-clause-entries_after c = search (rules, early_kept)
 
 pub fill_index-requires : goal.fill_index-requires
 fill_index-requires c = (search (rules, file_accepted), search rules)
 
-pub end_verdict-verdict-requires : goal.end_verdict-verdict-requires
-end_verdict-verdict-requires c = (search (rules, indexed), search (rules, horizon_right))
+pub end_verdict-requires : goal.end_verdict-requires
+end_verdict-requires c = (search (rules, indexed), search (rules, horizon_right))
 
-pub returns-in_default-verdict-clause-value : goal.returns-in_default-verdict-clause-value
-returns-in_default-verdict-clause-value c = search (rules, end_same)
+pub returns-in_err-end_verdict-clause-value : goal.returns-in_err-end_verdict-clause-value
+returns-in_err-end_verdict-clause-value c = search (rules, end_same)
 
-pub returns-in_default-verdict-clause-entries_after : goal.returns-in_default-verdict-clause-entries_after
-returns-in_default-verdict-clause-entries_after c = search (rules, late_kept)
+pub returns-in_err-end_verdict-clause-entries_after : goal.returns-in_err-end_verdict-clause-entries_after
+returns-in_err-end_verdict-clause-entries_after c = search (rules, late_kept)
 
 pub write_schedule-requires : goal.write_schedule-requires
 write_schedule-requires c = (search (rules, indexed), search (rules, horizon_right), search (rules, entries_room))

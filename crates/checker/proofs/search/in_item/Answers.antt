@@ -19,8 +19,8 @@ returns-in-GoalPairs c = search (rules, answer_same)
 pub some_value_clause-requires : goal.some_value_clause-requires
 some_value_clause-requires c = search (rules, come_same)
 
-pub returns-in-SomeValue : goal.returns-in-SomeValue
-returns-in-SomeValue c = search (rules, answer_same)
+pub returns-in-AllValues : goal.returns-in-AllValues
+returns-in-AllValues c = search (rules, answer_same)
 
 pub two_values_clauses-requires : goal.two_values_clauses-requires
 two_values_clauses-requires c = search (rules, come_same)
@@ -31,14 +31,14 @@ returns-in-TwoValues c = search (rules, answer_same)
 pub precondition_clauses-requires : goal.precondition_clauses-requires
 precondition_clauses-requires c = search (rules, come_same)
 
-pub returns-in-PreconditionsHold : goal.returns-in-PreconditionsHold
-returns-in-PreconditionsHold c = search (rules, answer_same)
+pub returns-in-Preconditions : goal.returns-in-Preconditions
+returns-in-Preconditions c = search (rules, answer_same)
 
 pub effect_clauses-requires : goal.effect_clauses-requires
 effect_clauses-requires c = search (rules, come_same)
 
-pub returns-in-EffectsHold : goal.returns-in-EffectsHold
-returns-in-EffectsHold c = search (rules, answer_same)
+pub returns-in-Effects : goal.returns-in-Effects
+returns-in-Effects c = search (rules, answer_same)
 
 pub stay_clauses-requires : goal.stay_clauses-requires
 stay_clauses-requires c = search (rules, come_same)

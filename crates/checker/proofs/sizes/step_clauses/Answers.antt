@@ -19,14 +19,14 @@ returns-in-TwoValues c = search (rules, step_values)
 pub preconditions_before-requires : goal.preconditions_before-requires
 preconditions_before-requires c = search (rules, few_actions)
 
-pub returns-in-PreconditionsHold : goal.returns-in-PreconditionsHold
-returns-in-PreconditionsHold c = search (rules, step_preconditions)
+pub returns-in-Preconditions : goal.returns-in-Preconditions
+returns-in-Preconditions c = search (rules, step_preconditions)
 
 pub effects_before-requires : goal.effects_before-requires
 effects_before-requires c = search (rules, few_actions)
 
-pub returns-in-EffectsHold : goal.returns-in-EffectsHold
-returns-in-EffectsHold c = search (rules, step_effects)
+pub returns-in-Effects : goal.returns-in-Effects
+returns-in-Effects c = search (rules, step_effects)
 
 pub returns-in-ValuesStay : goal.returns-in-ValuesStay
 returns-in-ValuesStay c = search (rules, step_stay)

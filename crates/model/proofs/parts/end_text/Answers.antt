@@ -13,8 +13,8 @@ slice_bounds-schedule_text-end c = search (rules, part_length)
 pub schedule_text-requires : goal.schedule_text-requires
 schedule_text-requires c = search (rules, part_fits)
 
-pub returns-in-Refused : goal.returns-in-Refused
-returns-in-Refused c = search (rules, end_refused, end_refused_behind)
+pub returns-in-Err : goal.returns-in-Err
+returns-in-Err c = search (rules, end_refused, end_refused_behind)
 
-pub returns-in-Accepted : goal.returns-in-Accepted
-returns-in-Accepted c = search (rules, end_accepted, end_accepted_behind)
+pub returns-in-Ok : goal.returns-in-Ok
+returns-in-Ok c = search (rules, end_accepted, end_accepted_behind)
