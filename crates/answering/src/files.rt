@@ -6,6 +6,7 @@ use crate::replies;
 use crate::replies::Reply;
 use reader::contents;
 use task::index::INDEX_LENGTH;
+use task::indexed::IndexedFile;
 
 const BODIES: usize = 4;
 
@@ -23,7 +24,10 @@ fn sizes(file: &[u8]) -> Reply
     task::filling::fill_index(file, &mut index);
     replies::counted(
         task::asked::variables(file),
-        task::index::actions(file, &index),
+        task::index::actions(&IndexedFile {
+            file,
+            index: &index,
+        }),
     )
 }
 

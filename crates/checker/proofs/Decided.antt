@@ -23,5 +23,5 @@ pub lowest_unmet_decided : (κs : Lfts 4) (a : Dens κs lowest-unmet-kinds.ps) (
 lowest_unmet_decided κs a r s x y p q = p ∙ sym q
 
 pub write_schedule_decided : (κs : Lfts 5) (a : Dens κs write-schedule-kinds.ps) (x y : AtExit (ended_of 5 write-schedule-kinds.ps write-schedule-kinds.r) κs)
-    → write-schedule.Post κs a tt x → write-schedule.Post κs a tt y → x.1.1.1.1.1.0.now ≡ y.1.1.1.1.1.0.now
+    → write-schedule.Post κs a tt x → write-schedule.Post κs a tt y → x.1.1.1.0.now ≡ y.1.1.1.0.now
 write_schedule_decided κs a x y p q = p ∙ sym q

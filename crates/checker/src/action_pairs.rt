@@ -5,8 +5,10 @@ ghost use Rattle.rules.specs.Task.{A as actionCount, pair, action};
 ghost use Rattle.rules.specs.File.{task_of};
 ghost use Rattle.task.specs.Index.{Indexed};
 ghost use Rattle.checker.specs.Order.{pairs_of, told_at};
+ghost use Rattle.task.specs.Asked.{task_in};
 
 use task::asked::{effect, effect_count, precondition, precondition_count};
+use task::indexed::IndexedFile;
 use task::numbering::{ValuePlace, nth_action};
 
 // Which of the two lists.
@@ -17,25 +19,25 @@ pub enum ActionPairs {
 }
 
 // How many pairs the list of an action has.
-pub fn pair_count(file: &[u8], index: &[u16], list: ActionPairs, a: usize) -> usize
-    requires { Indexed file.now index.now × (a < actionCount (task_of file.now)) }
-    ensures { result ≡ length (pairs_of list (action (task_of file.now) a)) }
+pub fn pair_count(task: &IndexedFile, list: ActionPairs, a: usize) -> usize
+    requires { a < actionCount (task_in task.now) }
+    ensures { result ≡ length (pairs_of list (action (task_in task.now) a)) }
 {
     match list {
-        ActionPairs::Preconditions => precondition_count(file, index, nth_action(a)),
-        ActionPairs::Effects => effect_count(file, index, nth_action(a)),
+        ActionPairs::Preconditions => precondition_count(task, nth_action(a)),
+        ActionPairs::Effects => effect_count(task, nth_action(a)),
     }
 }
 
 // Pair i of the list of an action.
-pub fn nth_pair(file: &[u8], index: &[u16], list: ActionPairs, a: usize, i: usize) -> ValuePlace
-    requires { Indexed file.now index.now × (a < actionCount (task_of file.now)) × (i < length (pairs_of list (action (task_of file.now) a))) }
-    ensures { (result.0 ≡ (pair (pairs_of list (action (task_of file.now) a)) i).variable)
-        × (result.1 ≡ (pair (pairs_of list (action (task_of file.now) a)) i).value) }
+pub fn nth_pair(task: &IndexedFile, list: ActionPairs, a: usize, i: usize) -> ValuePlace
+    requires { (a < actionCount (task_in task.now)) × (i < length (pairs_of list (action (task_in task.now) a))) }
+    ensures { (result.0 ≡ (pair (pairs_of list (action (task_in task.now) a)) i).variable)
+        × (result.1 ≡ (pair (pairs_of list (action (task_in task.now) a)) i).value) }
 {
     match list {
-        ActionPairs::Preconditions => precondition(file, index, nth_action(a), i),
-        ActionPairs::Effects => effect(file, index, nth_action(a), i),
+        ActionPairs::Preconditions => precondition(task, nth_action(a), i),
+        ActionPairs::Effects => effect(task, nth_action(a), i),
     }
 }
 

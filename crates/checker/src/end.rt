@@ -8,6 +8,7 @@ ghost use Rattle.rules.specs.Output.{ending, model_rules};
 ghost use Rattle.rules.specs.Calls.{problem_of, end_verdict, end_entries};
 ghost use Rattle.task.specs.Index.{Indexed};
 ghost use Rattle.checker.specs.End.{lent, end_with};
+ghost use Rattle.task.specs.Asked.{problem_asked, file_asked};
 
 use crate::schedule::write_schedule;
 use crate::search::{all_clauses, lowest_unmet};
@@ -15,6 +16,7 @@ use rows::words_for;
 use rules::{Phase, Reading, Refusal};
 use task::filling::fill_index;
 use task::index::INDEX_LENGTH;
+use task::indexed::{Asked, IndexedFile};
 use task::problem::{count_variables, problem_verdict};
 
 // What the status alone decides.
@@ -31,18 +33,11 @@ fn status_verdict(phase: Phase) -> Result<(), Refusal>
 }
 
 // Refusal 17.
-fn model_verdict(
-    file: &[u8],
-    index: &[u16],
-    horizon: usize,
-    given: &[u64],
-    truth: &[u64],
-) -> Result<(), Refusal>
-    requires { Indexed file.now index.now × (horizon ≤ max_horizon) }
-    ensures { result ≡ judge (model_rules (problem_of file.now horizon) (lent given.now truth.now)) }
+fn model_verdict(asked: &Asked, given: &[u64], truth: &[u64]) -> Result<(), Refusal>
+    ensures { result ≡ judge (model_rules (problem_asked asked.now) (lent given.now truth.now)) }
 {
-    let lowest = lowest_unmet(file, index, horizon, given, truth);
-    if lowest < all_clauses(file, index, horizon) {
+    let lowest = lowest_unmet(asked, given, truth);
+    if lowest < all_clauses(asked) {
         return Err(Refusal::UnmetClause(lowest));
     }
     Ok(())
@@ -50,39 +45,28 @@ fn model_verdict(
 
 // There is room for the rows and the entries.
 #[tactic(auto, unfolding(rules::specs::Lines::rows_fit))]
-fn room_fits(
-    file: &[u8],
-    index: &[u16],
-    horizon: usize,
-    given: &[u64],
-    truth: &[u64],
-    room: usize,
-) -> bool
-    requires { Indexed file.now index.now × (horizon ≤ max_horizon) }
-    ensures { result ≡ (rows_fit (N (problem_of file.now horizon)) (lent given.now truth.now) && leb horizon room) }
+fn room_fits(asked: &Asked, given: &[u64], truth: &[u64], room: usize) -> bool
+    ensures { result ≡ (rows_fit (N (problem_asked asked.now)) (lent given.now truth.now) && leb asked.now.horizon room) }
 {
-    let words = words_for(count_variables(file, index, horizon));
-    words <= given.len() && words <= truth.len() && horizon <= room
+    let words = words_for(count_variables(asked));
+    words <= given.len() && words <= truth.len() && asked.horizon <= room
 }
 
 // All refusals that follow an accepted file and horizon, in their order.
 fn end_verdict(
-    file: &[u8],
-    index: &[u16],
-    horizon: usize,
+    asked: &Asked,
     phase: Phase,
     given: &[u64],
     truth: &[u64],
     room: usize,
 ) -> Result<(), Refusal>
-    requires { Indexed file.now index.now × (horizon ≤ max_horizon) }
-    ensures { result ≡ end_with file.now horizon phase (lent given.now truth.now) room }
+    ensures { result ≡ end_with (file_asked asked.now) asked.now.horizon phase (lent given.now truth.now) room }
 {
-    if !room_fits(file, index, horizon, given, truth, room) {
+    if !room_fits(asked, given, truth, room) {
         return Err(Refusal::Room);
     }
     status_verdict(phase)?;
-    model_verdict(file, index, horizon, given, truth)
+    model_verdict(asked, given, truth)
 }
 
 // The end of a reading: the verdict, and in the first entries the schedule that an accepted model states.
@@ -101,7 +85,12 @@ pub fn finish(
     let mut index = [0u16; INDEX_LENGTH];
     fill_index(file, &mut index);
     let phase = reading.phase;
-    end_verdict(file, &index, horizon, phase, given, truth, entries.len())?;
-    write_schedule(file, &index, horizon, given, truth, entries);
+    let task = IndexedFile {
+        file,
+        index: &index,
+    };
+    let asked = Asked { task, horizon };
+    end_verdict(&asked, phase, given, truth, entries.len())?;
+    write_schedule(&asked, given, truth, entries);
     Ok(())
 }

@@ -4,6 +4,7 @@ ghost use Rattle.rules.specs.Counting.{first};
 ghost use Rattle.rules.specs.File.{task_of};
 ghost use Rattle.rows.specs.Lent.{lent};
 ghost use Rattle.checker.specs.Order.{is_unmet, clauses_of, Come, pairs_family, start_values, goal_pairs, some_value, two_values, preconditions_hold, effects_hold, two_actions};
+ghost use Rattle.task.specs.Asked.{task_in, file_asked};
 
 use crate::action_pairs::{ActionPairs, nth_pair, pair_count, told_at};
 use crate::bits::{
@@ -14,48 +15,32 @@ use crate::first_two::first_pair;
 use rows::first_set;
 use task::asked::{goal_pair, size, start_value};
 use task::index::actions;
+use task::indexed::Asked;
 
 // A variable is named to have its start value at the first step.
-pub fn start_clause(
-    file: &[u8],
-    index: &[u16],
-    horizon: usize,
-    given: &[u64],
-    truth: &[u64],
-    x: usize,
-    at: usize,
-) -> usize
-    requires { Come file.now index.now (lent given.now truth.now) horizon start_values 0 x at }
-    ensures { result ≡ first (at + clauses_of (task_of file.now) start_values x) (is_unmet file.now horizon (lent given.now truth.now)) }
+pub fn start_clause(asked: &Asked, given: &[u64], truth: &[u64], x: usize, at: usize) -> usize
+    requires { Come (file_asked asked.now) asked.now.task.index.now (lent given.now truth.now) asked.now.horizon start_values 0 x at }
+    ensures { result ≡ first (at + clauses_of (task_in asked.now.task) start_values x) (is_unmet (file_asked asked.now) asked.now.horizon (lent given.now truth.now)) }
 {
-    let value = start_value(file, x);
-    if value_holds(file, index, given, truth, UNNAMED_IN_POSITIVE, 0, x, value) {
+    let value = start_value(asked.task.file, x);
+    if value_holds(&asked.task, given, truth, UNNAMED_IN_POSITIVE, 0, x, value) {
         return at + 1;
     }
     at
 }
 
 // A goal pair is named to hold at the last step.
-pub fn goal_clause(
-    file: &[u8],
-    index: &[u16],
-    horizon: usize,
-    given: &[u64],
-    truth: &[u64],
-    i: usize,
-    at: usize,
-) -> usize
-    requires { Come file.now index.now (lent given.now truth.now) horizon goal_pairs 0 i at }
-    ensures { result ≡ first (at + clauses_of (task_of file.now) goal_pairs i) (is_unmet file.now horizon (lent given.now truth.now)) }
+pub fn goal_clause(asked: &Asked, given: &[u64], truth: &[u64], i: usize, at: usize) -> usize
+    requires { Come (file_asked asked.now) asked.now.task.index.now (lent given.now truth.now) asked.now.horizon goal_pairs 0 i at }
+    ensures { result ≡ first (at + clauses_of (task_in asked.now.task) goal_pairs i) (is_unmet (file_asked asked.now) asked.now.horizon (lent given.now truth.now)) }
 {
-    let pair = goal_pair(file, i);
+    let pair = goal_pair(asked.task.file, i);
     if pair_holds(
-        file,
-        index,
+        &asked.task,
         given,
         truth,
         UNNAMED_IN_POSITIVE,
-        horizon,
+        asked.horizon,
         pair,
     ) {
         return at + 1;
@@ -65,20 +50,18 @@ pub fn goal_clause(
 
 // A variable is named to have some value at a step.
 pub fn some_value_clause(
-    file: &[u8],
-    index: &[u16],
-    horizon: usize,
+    asked: &Asked,
     given: &[u64],
     truth: &[u64],
     step: usize,
     x: usize,
     at: usize,
 ) -> usize
-    requires { Come file.now index.now (lent given.now truth.now) horizon some_value step x at }
-    ensures { result ≡ first (at + clauses_of (task_of file.now) some_value x) (is_unmet file.now horizon (lent given.now truth.now)) }
+    requires { Come (file_asked asked.now) asked.now.task.index.now (lent given.now truth.now) asked.now.horizon some_value step x at }
+    ensures { result ≡ first (at + clauses_of (task_in asked.now.task) some_value x) (is_unmet (file_asked asked.now) asked.now.horizon (lent given.now truth.now)) }
 {
-    let values = size(file, x);
-    let from = first_value(file, index, step, x);
+    let values = size(asked.task.file, x);
+    let from = first_value(&asked.task, step, x);
     if first_set(given, truth, UNNAMED_IN_POSITIVE, from, values) < values {
         return at + 1;
     }
@@ -87,27 +70,23 @@ pub fn some_value_clause(
 
 // Of every two values one is named false there.
 pub fn two_values_clauses(
-    file: &[u8],
-    index: &[u16],
-    horizon: usize,
+    asked: &Asked,
     given: &[u64],
     truth: &[u64],
     step: usize,
     x: usize,
     at: usize,
 ) -> usize
-    requires { Come file.now index.now (lent given.now truth.now) horizon two_values step x at }
-    ensures { result ≡ first (at + clauses_of (task_of file.now) two_values x) (is_unmet file.now horizon (lent given.now truth.now)) }
+    requires { Come (file_asked asked.now) asked.now.task.index.now (lent given.now truth.now) asked.now.horizon two_values step x at }
+    ensures { result ≡ first (at + clauses_of (task_in asked.now.task) two_values x) (is_unmet (file_asked asked.now) asked.now.horizon (lent given.now truth.now)) }
 {
-    let from = first_value(file, index, step, x);
-    at + first_pair(given, truth, from, size(file, x))
+    let from = first_value(&asked.task, step, x);
+    at + first_pair(given, truth, from, size(asked.task.file, x))
 }
 
 // The pairs of a list of an action that is not named false at a step are named to hold.
 fn pair_clauses(
-    file: &[u8],
-    index: &[u16],
-    horizon: usize,
+    asked: &Asked,
     given: &[u64],
     truth: &[u64],
     list: ActionPairs,
@@ -115,17 +94,17 @@ fn pair_clauses(
     a: usize,
     at: usize,
 ) -> usize
-    requires { Come file.now index.now (lent given.now truth.now) horizon (pairs_family list) step a at }
-    ensures { result ≡ first (at + clauses_of (task_of file.now) (pairs_family list) a) (is_unmet file.now horizon (lent given.now truth.now)) }
+    requires { Come (file_asked asked.now) asked.now.task.index.now (lent given.now truth.now) asked.now.horizon (pairs_family list) step a at }
+    ensures { result ≡ first (at + clauses_of (task_in asked.now.task) (pairs_family list) a) (is_unmet (file_asked asked.now) asked.now.horizon (lent given.now truth.now)) }
 {
-    let count = pair_count(file, index, list, a);
-    if !acts(file, index, given, truth, UNNAMED_IN_NEGATIVE, step, a) {
+    let count = pair_count(&asked.task, list, a);
+    if !acts(&asked.task, given, truth, UNNAMED_IN_NEGATIVE, step, a) {
         return at + count;
     }
     let told = told_at(list, step);
     for i in 0..count {
-        let pair = nth_pair(file, index, list, a, i);
-        if !pair_holds(file, index, given, truth, UNNAMED_IN_POSITIVE, told, pair) {
+        let pair = nth_pair(&asked.task, list, a, i);
+        if !pair_holds(&asked.task, given, truth, UNNAMED_IN_POSITIVE, told, pair) {
             return at + i;
         }
     }
@@ -134,56 +113,50 @@ fn pair_clauses(
 
 // The preconditions of an action that is not named false at a step are named to hold there.
 pub fn precondition_clauses(
-    file: &[u8],
-    index: &[u16],
-    horizon: usize,
+    asked: &Asked,
     given: &[u64],
     truth: &[u64],
     step: usize,
     a: usize,
     at: usize,
 ) -> usize
-    requires { Come file.now index.now (lent given.now truth.now) horizon preconditions_hold step a at }
-    ensures { result ≡ first (at + clauses_of (task_of file.now) preconditions_hold a) (is_unmet file.now horizon (lent given.now truth.now)) }
+    requires { Come (file_asked asked.now) asked.now.task.index.now (lent given.now truth.now) asked.now.horizon preconditions_hold step a at }
+    ensures { result ≡ first (at + clauses_of (task_in asked.now.task) preconditions_hold a) (is_unmet (file_asked asked.now) asked.now.horizon (lent given.now truth.now)) }
 {
     let list = ActionPairs::Preconditions;
-    pair_clauses(file, index, horizon, given, truth, list, step, a, at)
+    pair_clauses(asked, given, truth, list, step, a, at)
 }
 
 // Its effects are named to hold at the next.
 pub fn effect_clauses(
-    file: &[u8],
-    index: &[u16],
-    horizon: usize,
+    asked: &Asked,
     given: &[u64],
     truth: &[u64],
     step: usize,
     a: usize,
     at: usize,
 ) -> usize
-    requires { Come file.now index.now (lent given.now truth.now) horizon effects_hold step a at }
-    ensures { result ≡ first (at + clauses_of (task_of file.now) effects_hold a) (is_unmet file.now horizon (lent given.now truth.now)) }
+    requires { Come (file_asked asked.now) asked.now.task.index.now (lent given.now truth.now) asked.now.horizon effects_hold step a at }
+    ensures { result ≡ first (at + clauses_of (task_in asked.now.task) effects_hold a) (is_unmet (file_asked asked.now) asked.now.horizon (lent given.now truth.now)) }
 {
     let list = ActionPairs::Effects;
-    pair_clauses(file, index, horizon, given, truth, list, step, a, at)
+    pair_clauses(asked, given, truth, list, step, a, at)
 }
 
 // Of every two actions at a step one is named false.
 pub fn two_actions_clauses(
-    file: &[u8],
-    index: &[u16],
-    horizon: usize,
+    asked: &Asked,
     given: &[u64],
     truth: &[u64],
     step: usize,
     at: usize,
 ) -> usize
-    requires { Come file.now index.now (lent given.now truth.now) horizon two_actions step 0 at }
-    ensures { result ≡ first (at + clauses_of (task_of file.now) two_actions 0) (is_unmet file.now horizon (lent given.now truth.now)) }
+    requires { Come (file_asked asked.now) asked.now.task.index.now (lent given.now truth.now) asked.now.horizon two_actions step 0 at }
+    ensures { result ≡ first (at + clauses_of (task_in asked.now.task) two_actions 0) (is_unmet (file_asked asked.now) asked.now.horizon (lent given.now truth.now)) }
 {
-    let count = actions(file, index);
+    let count = actions(&asked.task);
     if count == 0 {
         return at;
     }
-    at + first_pair(given, truth, first_action(file, index, step), count)
+    at + first_pair(given, truth, first_action(&asked.task, step), count)
 }

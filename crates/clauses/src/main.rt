@@ -9,6 +9,7 @@ ghost use Rattle.rules.specs.Calls.{problem_of, problem_verdict};
 ghost use Rattle.task.specs.Index.{Indexed};
 ghost use Rattle.lines.specs.Written.{line_room};
 ghost use Rattle.clauses.specs.Printed.{lines_printed};
+ghost use Rattle.task.specs.Asked.{problem_asked};
 
 use formula::families::count_clauses;
 use printing::refusal_line;
@@ -16,10 +17,12 @@ use reader::contents::byte_at;
 use reader::limits::MAX_FILE;
 use task::filling::fill_index;
 use task::index::INDEX_LENGTH;
+use task::indexed::{Asked, IndexedFile};
 use task::problem::problem_verdict;
 use text::calls::{header_indexed, lines_indexed};
 
-// Standard input, by its number.
+// Standard input, by its number. By the kit's `io`, as a write there gives no error: so `print_lines` promises how many lines it made whatever becomes
+// of them.
 const STDIN_FILENO: i32 = 0;
 
 // Standard output, by its number.
@@ -35,15 +38,15 @@ const TEXT_ROOM: usize = 262144;
 const REFUSAL_LINES: usize = 1;
 
 // All lines, as many at a time as fit: how many were made and printed. In room for any line none is refused.
-fn print_lines(file: &[u8], index: &[u16], horizon: usize, out: &mut [u8]) -> usize
-    requires { Indexed file.now index.now × (horizon ≤ max_horizon) × (line_room ≤ length out.old) }
-    ensures { result ≡ C (problem_of file.now horizon) }
+fn print_lines(asked: &Asked, out: &mut [u8]) -> usize
+    requires { line_room ≤ length out.old }
+    ensures { result ≡ C (problem_asked asked.now) }
 {
-    let all = count_clauses(file, index, horizon);
+    let all = count_clauses(asked);
     let mut c = 0;
     // A `while`: the clause jumps behind the lines that fitted.
     while c < all {
-        let Ok(run) = lines_indexed(file, index, horizon, c, out) else {
+        let Ok(run) = lines_indexed(asked, c, out) else {
             return c;
         };
         io::write_all(STDOUT_FILENO, &out[..run.bytes]);
@@ -53,15 +56,15 @@ fn print_lines(file: &[u8], index: &[u16], horizon: usize, out: &mut [u8]) -> us
 }
 
 // The header and the lines behind it: how many were made and printed.
-fn print_formula(file: &[u8], index: &[u16], horizon: usize, out: &mut [u8]) -> usize
-    requires { Indexed file.now index.now × (horizon ≤ max_horizon) × (line_room ≤ length out.old) }
-    ensures { result ≡ suc (C (problem_of file.now horizon)) }
+fn print_formula(asked: &Asked, out: &mut [u8]) -> usize
+    requires { line_room ≤ length out.old }
+    ensures { result ≡ suc (C (problem_asked asked.now)) }
 {
-    let Ok(run) = header_indexed(file, index, horizon, out) else {
+    let Ok(run) = header_indexed(asked, out) else {
         return 0;
     };
     io::write_all(STDOUT_FILENO, &out[..run.bytes]);
-    run.lines + print_lines(file, index, horizon, out)
+    run.lines + print_lines(asked, out)
 }
 
 // The text of a file at a horizon, or the line of a refusal: how many lines were made and printed.
@@ -77,7 +80,12 @@ fn print_answer(file: &[u8], horizon: usize, out: &mut [u8]) -> usize
     }
     let mut index = [0u16; INDEX_LENGTH];
     fill_index(file, &mut index);
-    print_formula(file, &index, horizon, out)
+    let task = IndexedFile {
+        file,
+        index: &index,
+    };
+    let asked = Asked { task, horizon };
+    print_formula(&asked, out)
 }
 
 // The horizon is the first byte of the input, the file the others; a missing horizon is 0.

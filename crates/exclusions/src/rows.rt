@@ -34,6 +34,7 @@ fn put_ten(out: &mut [u8], at: usize, head: u64, beside: usize, m: usize, n: usi
 {
     let line = beside + digits_of(m);
     let tail = tail_of(m);
+    // Two tests, since one of both made the clause program slower.
     if n < TEN {
         return put_run(out, at, head, line, tail, n);
     }

@@ -29,7 +29,7 @@ pub one_literals_indexed : (κs : _) (a : _) (r s : LiteralsAnswer) (x y : _) �
 one_literals_indexed κs a r s x y p q = p.0 ∙ sym q.0
 
 pub one_literals_indexed_left : (κs : _) (a : _) (r s : LiteralsAnswer) (x y : _) → literals-indexed.Post κs a r x → literals-indexed.Post κs a s y
-    → x.1.1.1.1.0.now ≡ y.1.1.1.1.0.now
+    → x.1.1.0.now ≡ y.1.1.0.now
 one_literals_indexed_left κs a r s x y p q = p.1 ∙ sym q.1
 
 -- ---- for an accepted file with its index
@@ -46,5 +46,5 @@ one_count_clauses κs a r s x p q = p ∙ sym q
 pub one_literal_count : (κs : _) (a : _) (r s : ℕ) (x : _) → literal-count.Post κs a r x → literal-count.Post κs a s x → r ≡ s
 one_literal_count κs a r s x p q = p ∙ sym q
 
-pub one_put_clause : (κs : _) (a : _) (r s : _) (x y : _) → put-clause.Post κs a r x → put-clause.Post κs a s y → x.1.1.1.1.0.now ≡ y.1.1.1.1.0.now
+pub one_put_clause : (κs : _) (a : _) (r s : _) (x y : _) → put-clause.Post κs a r x → put-clause.Post κs a s y → x.1.1.0.now ≡ y.1.1.0.now
 one_put_clause κs a r s x y p q = p ∙ sym q

@@ -4,6 +4,7 @@ ghost use Rattle.rules.specs.Limits.{max_horizon};
 ghost use Rattle.rules.specs.Calls.{lent_after, clause_signed, clause_verdict};
 ghost use Rattle.task.specs.Index.{Indexed};
 ghost use Rattle.formula.specs.Said.{counts_answer, literals_answer};
+ghost use Rattle.task.specs.Asked.{file_asked};
 
 use crate::clauses::{literal_count, put_clause};
 use crate::families::count_clauses;
@@ -11,6 +12,7 @@ use crate::placing::place_of;
 use rules::Refusal;
 use task::filling::fill_index;
 use task::index::INDEX_LENGTH;
+use task::indexed::{Asked, IndexedFile};
 use task::problem::{count_variables, problem_verdict};
 
 // N and C.
@@ -27,33 +29,31 @@ pub fn counts(file: &[u8], horizon: usize) -> Result<FormulaCounts, Refusal>
     problem_verdict(file, horizon)?;
     let mut index = [0u16; INDEX_LENGTH];
     fill_index(file, &mut index);
+    let task = IndexedFile {
+        file,
+        index: &index,
+    };
+    let asked = Asked { task, horizon };
     Ok(FormulaCounts {
-        variables: count_variables(file, &index, horizon),
-        clauses: count_clauses(file, &index, horizon),
+        variables: count_variables(&asked),
+        clauses: count_clauses(&asked),
     })
 }
 
 // The same as `literals`, how many literals were written, of an accepted file with its index.
-pub fn literals_indexed(
-    file: &[u8],
-    index: &[u16],
-    horizon: usize,
-    c: usize,
-    out: &mut [i32],
-) -> Result<usize, Refusal>
-    requires { Indexed file.now index.now × (horizon ≤ max_horizon) }
-    ensures { (result ≡ literals_answer file.now horizon c (length out.old))
-        × (out.new ≡ lent_after (clause_verdict file.now horizon c (length out.old)) (clause_signed file.now horizon c) out.old) }
+pub fn literals_indexed(asked: &Asked, c: usize, out: &mut [i32]) -> Result<usize, Refusal>
+    ensures { (result ≡ literals_answer (file_asked asked.now) asked.now.horizon c (length out.old))
+        × (out.new ≡ lent_after (clause_verdict (file_asked asked.now) asked.now.horizon c (length out.old)) (clause_signed (file_asked asked.now) asked.now.horizon c) out.old) }
 {
-    if count_clauses(file, index, horizon) <= c {
+    if count_clauses(asked) <= c {
         return Err(Refusal::ClauseNumber);
     }
-    let place = place_of(file, index, horizon, c);
-    let count = literal_count(file, index, horizon, place);
+    let place = place_of(asked, c);
+    let count = literal_count(&asked.task, asked.horizon, place);
     if out.len() < count {
         return Err(Refusal::Room);
     }
-    put_clause(file, index, horizon, place, out);
+    put_clause(asked, place, out);
     Ok(count)
 }
 
@@ -65,5 +65,10 @@ pub fn literals(file: &[u8], horizon: usize, c: usize, out: &mut [i32]) -> Resul
     problem_verdict(file, horizon)?;
     let mut index = [0u16; INDEX_LENGTH];
     fill_index(file, &mut index);
-    literals_indexed(file, &index, horizon, c, out)
+    let task = IndexedFile {
+        file,
+        index: &index,
+    };
+    let asked = Asked { task, horizon };
+    literals_indexed(&asked, c, out)
 }

@@ -7,11 +7,13 @@ ghost use Rattle.rules.specs.Calls.{problem_of};
 ghost use Rattle.task.specs.Index.{Indexed};
 ghost use Rattle.task.specs.Families.{number_of_family};
 ghost use Rattle.formula.specs.InFamily.{steps_of, width_of, count_of};
+ghost use Rattle.task.specs.Asked.{task_in, problem_asked};
 
 use pairs::pairs_below;
 use task::asked::{goals, variables};
 use task::family::{FAMILIES, Family};
 use task::index::{actions, effects_before, preconditions_before, value_pairs_before, values};
+use task::indexed::{Asked, IndexedFile};
 
 // At how many steps a family has clauses.
 #[tactic(auto, unfolding(crate::specs::InFamily::steps_of))]
@@ -33,38 +35,35 @@ fn steps(horizon: usize, family: Family) -> usize
 
 // How many clauses a family has at a step.
 #[tactic(auto, unfolding(crate::specs::InFamily::width_of))]
-pub fn width(file: &[u8], index: &[u16], family: Family) -> usize
-    requires { Indexed file.now index.now }
-    ensures { result ≡ width_of (task_of file.now) (number_of_family family) }
+pub fn width(task: &IndexedFile, family: Family) -> usize
+    ensures { result ≡ width_of (task_in task.now) (number_of_family family) }
 {
     match family {
-        Family::StartValues => variables(file),
-        Family::GoalPairs => goals(file),
-        Family::AllValues => variables(file),
-        Family::TwoValues => value_pairs_before(file, index, variables(file)),
-        Family::Preconditions => preconditions_before(file, index, actions(file, index)),
-        Family::Effects => effects_before(file, index, actions(file, index)),
-        Family::ValuesStay => values(file, index),
-        Family::TwoActions => pairs_below(actions(file, index)),
+        Family::StartValues => variables(task.file),
+        Family::GoalPairs => goals(task.file),
+        Family::AllValues => variables(task.file),
+        Family::TwoValues => value_pairs_before(task, variables(task.file)),
+        Family::Preconditions => preconditions_before(task, actions(task)),
+        Family::Effects => effects_before(task, actions(task)),
+        Family::ValuesStay => values(task),
+        Family::TwoActions => pairs_below(actions(task)),
     }
 }
 
 // How many clauses a family has.
-pub fn count_of(file: &[u8], index: &[u16], horizon: usize, family: Family) -> usize
-    requires { Indexed file.now index.now × (horizon ≤ max_horizon) }
-    ensures { result ≡ count_of (task_of file.now) horizon (number_of_family family) }
+pub fn count_of(asked: &Asked, family: Family) -> usize
+    ensures { result ≡ count_of (task_in asked.now.task) asked.now.horizon (number_of_family family) }
 {
-    steps(horizon, family) * width(file, index, family)
+    steps(asked.horizon, family) * width(&asked.task, family)
 }
 
 // C.
-pub fn count_clauses(file: &[u8], index: &[u16], horizon: usize) -> usize
-    requires { Indexed file.now index.now × (horizon ≤ max_horizon) }
-    ensures { result ≡ C (problem_of file.now horizon) }
+pub fn count_clauses(asked: &Asked) -> usize
+    ensures { result ≡ C (problem_asked asked.now) }
 {
     let mut sum = 0;
     for family in FAMILIES {
-        sum += count_of(file, index, horizon, family);
+        sum += count_of(asked, family);
     }
     sum
 }

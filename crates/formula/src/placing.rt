@@ -8,6 +8,7 @@ ghost use Rattle.rules.proofs.ByNumber.{clauses_before};
 ghost use Rattle.task.specs.Index.{Indexed};
 ghost use Rattle.task.specs.Families.{number_of_family};
 ghost use Rattle.formula.specs.InFamily.{steps_of, width_of, count_of, IsAt, PlacedIn};
+ghost use Rattle.task.specs.Asked.{task_in, problem_asked, file_asked};
 
 use crate::families::{count_of, width};
 use crate::place::Place;
@@ -18,6 +19,7 @@ use pairs::pair_of;
 use task::asked::size;
 use task::family::{FAMILIES, Family};
 use task::index::{actions, effects_before, offset, preconditions_before, value_pairs_before};
+use task::indexed::Asked;
 
 // A family, and how many of its clauses stand before one.
 #[derive(Clone, Copy)]
@@ -27,14 +29,14 @@ pub struct Rank {
 }
 
 // The family of clause c.
-fn family_of(file: &[u8], index: &[u16], horizon: usize, c: usize) -> Rank
-    requires { Indexed file.now index.now × (horizon ≤ max_horizon) × (c < C (problem_of file.now horizon)) }
-    ensures { (result.before < count_of (task_of file.now) horizon (number_of_family result.family))
-        × (clauses_before (task_of file.now) horizon (number_of_family result.family) + result.before ≡ c) }
+fn family_of(asked: &Asked, c: usize) -> Rank
+    requires { c < C (problem_asked asked.now) }
+    ensures { (result.before < count_of (task_in asked.now.task) asked.now.horizon (number_of_family result.family))
+        × (clauses_before (task_in asked.now.task) asked.now.horizon (number_of_family result.family) + result.before ≡ c) }
 {
     let mut before = c;
     for family in FAMILIES {
-        let count = count_of(file, index, horizon, family);
+        let count = count_of(asked, family);
         if before < count {
             return Rank { family, before };
         }
@@ -44,81 +46,77 @@ fn family_of(file: &[u8], index: &[u16], horizon: usize, c: usize) -> Rank
 }
 
 // Two values of a variable.
-fn two_values(file: &[u8], index: &[u16], horizon: usize, s: usize, q: usize) -> Place
-    requires { Indexed file.now index.now × (s < steps_of horizon 3) × (q < width_of (task_of file.now) 3) }
-    ensures { PlacedIn file.now horizon 3 s q result }
+fn two_values(asked: &Asked, s: usize, q: usize) -> Place
+    requires { (s < steps_of asked.now.horizon 3) × (q < width_of (task_in asked.now.task) 3) }
+    ensures { PlacedIn (file_asked asked.now) asked.now.horizon 3 s q result }
 {
-    let x = variable_of_pair(file, index, q);
-    let pair = pair_of(size(file, x), q - value_pairs_before(file, index, x));
+    let x = variable_of_pair(&asked.task, q);
+    let pair = pair_of(
+        size(asked.task.file, x),
+        q - value_pairs_before(&asked.task, x),
+    );
     Place::TwoValues(s, x, pair.first, pair.second)
 }
 
 // A precondition.
-fn precondition(file: &[u8], index: &[u16], horizon: usize, s: usize, q: usize) -> Place
-    requires { Indexed file.now index.now × (s < steps_of horizon 4) × (q < width_of (task_of file.now) 4) }
-    ensures { PlacedIn file.now horizon 4 s q result }
+fn precondition(asked: &Asked, s: usize, q: usize) -> Place
+    requires { (s < steps_of asked.now.horizon 4) × (q < width_of (task_in asked.now.task) 4) }
+    ensures { PlacedIn (file_asked asked.now) asked.now.horizon 4 s q result }
 {
-    let a = action_of_precondition(file, index, q);
-    Place::Precondition(s, a, q - preconditions_before(file, index, a))
+    let a = action_of_precondition(&asked.task, q);
+    Place::Precondition(s, a, q - preconditions_before(&asked.task, a))
 }
 
 // An effect.
-fn effect(file: &[u8], index: &[u16], horizon: usize, s: usize, q: usize) -> Place
-    requires { Indexed file.now index.now × (s < steps_of horizon 5) × (q < width_of (task_of file.now) 5) }
-    ensures { PlacedIn file.now horizon 5 s q result }
+fn effect(asked: &Asked, s: usize, q: usize) -> Place
+    requires { (s < steps_of asked.now.horizon 5) × (q < width_of (task_in asked.now.task) 5) }
+    ensures { PlacedIn (file_asked asked.now) asked.now.horizon 5 s q result }
 {
-    let a = action_of_effect(file, index, q);
-    Place::Effect(s, a, q - effects_before(file, index, a))
+    let a = action_of_effect(&asked.task, q);
+    Place::Effect(s, a, q - effects_before(&asked.task, a))
 }
 
 // A value that stays.
-fn stays(file: &[u8], index: &[u16], horizon: usize, s: usize, q: usize) -> Place
-    requires { Indexed file.now index.now × (s < steps_of horizon 6) × (q < width_of (task_of file.now) 6) }
-    ensures { PlacedIn file.now horizon 6 s q result }
+fn stays(asked: &Asked, s: usize, q: usize) -> Place
+    requires { (s < steps_of asked.now.horizon 6) × (q < width_of (task_in asked.now.task) 6) }
+    ensures { PlacedIn (file_asked asked.now) asked.now.horizon 6 s q result }
 {
-    let x = variable_of_value(file, index, q);
-    Place::Stays(s, x, q - offset(file, index, x))
+    let x = variable_of_value(&asked.task, q);
+    Place::Stays(s, x, q - offset(&asked.task, x))
 }
 
 // Two actions.
-fn two_actions(file: &[u8], index: &[u16], horizon: usize, s: usize, q: usize) -> Place
-    requires { Indexed file.now index.now × (s < steps_of horizon 7) × (q < width_of (task_of file.now) 7) }
-    ensures { PlacedIn file.now horizon 7 s q result }
+fn two_actions(asked: &Asked, s: usize, q: usize) -> Place
+    requires { (s < steps_of asked.now.horizon 7) × (q < width_of (task_in asked.now.task) 7) }
+    ensures { PlacedIn (file_asked asked.now) asked.now.horizon 7 s q result }
 {
-    let pair = pair_of(actions(file, index), q);
+    let pair = pair_of(actions(&asked.task), q);
     Place::TwoActions(s, pair.first, pair.second)
 }
 
 // Clause q of step s of a family.
-fn place_in(file: &[u8], index: &[u16], horizon: usize, family: Family, s: usize, q: usize) -> Place
-    requires { Indexed file.now index.now × (s < steps_of horizon (number_of_family family)) × (q < width_of (task_of file.now) (number_of_family family)) }
-    ensures { PlacedIn file.now horizon (number_of_family family) s q result }
+fn place_in(asked: &Asked, family: Family, s: usize, q: usize) -> Place
+    requires { (s < steps_of asked.now.horizon (number_of_family family)) × (q < width_of (task_in asked.now.task) (number_of_family family)) }
+    ensures { PlacedIn (file_asked asked.now) asked.now.horizon (number_of_family family) s q result }
 {
     match family {
         Family::StartValues => Place::Start(q),
         Family::GoalPairs => Place::Goal(q),
         Family::AllValues => Place::AllValues(s, q),
-        Family::TwoValues => two_values(file, index, horizon, s, q),
-        Family::Preconditions => precondition(file, index, horizon, s, q),
-        Family::Effects => effect(file, index, horizon, s, q),
-        Family::ValuesStay => stays(file, index, horizon, s, q),
-        Family::TwoActions => two_actions(file, index, horizon, s, q),
+        Family::TwoValues => two_values(asked, s, q),
+        Family::Preconditions => precondition(asked, s, q),
+        Family::Effects => effect(asked, s, q),
+        Family::ValuesStay => stays(asked, s, q),
+        Family::TwoActions => two_actions(asked, s, q),
     }
 }
 
 // The place of clause c.
-pub fn place_of(file: &[u8], index: &[u16], horizon: usize, c: usize) -> Place
-    requires { Indexed file.now index.now × (horizon ≤ max_horizon) × (c < C (problem_of file.now horizon)) }
-    ensures { IsAt (problem_of file.now horizon) c result }
+pub fn place_of(asked: &Asked, c: usize) -> Place
+    requires { c < C (problem_asked asked.now) }
+    ensures { IsAt (problem_asked asked.now) c result }
 {
-    let rank = family_of(file, index, horizon, c);
-    let width = width(file, index, rank.family);
-    place_in(
-        file,
-        index,
-        horizon,
-        rank.family,
-        rank.before / width,
-        rank.before % width,
-    )
+    let rank = family_of(asked, c);
+    let width = width(&asked.task, rank.family);
+    place_in(asked, rank.family, rank.before / width, rank.before % width)
 }

@@ -6,9 +6,11 @@ ghost use Rattle.rules.specs.File.{task_of};
 ghost use Rattle.pairs.specs.Halving.{Passes};
 ghost use Rattle.task.specs.Index.{Indexed, value_pairs_before, preconditions_before, effects_before};
 ghost use Rattle.formula.specs.Parts.{column, Spans, InPart};
+ghost use Rattle.task.specs.Asked.{task_in};
 
 use task::asked::variables;
 use task::index::{ACTION_WIDTH, ACTIONS_AT, VARIABLE_WIDTH, actions, number_in};
+use task::indexed::IndexedFile;
 
 // Number i of a column.
 fn number_at(index: &[u16], at: usize, width: usize, i: usize) -> usize
@@ -38,33 +40,33 @@ fn row_of(index: &[u16], at: usize, width: usize, rows: usize, q: usize) -> usiz
 }
 
 // The variable of value q of all values.
-pub fn variable_of_value(file: &[u8], index: &[u16], q: usize) -> usize
-    requires { Indexed file.now index.now × (q < S (task_of file.now)) }
-    ensures { InPart (n (task_of file.now)) (d (task_of file.now)) q result }
+pub fn variable_of_value(task: &IndexedFile, q: usize) -> usize
+    requires { q < S (task_in task.now) }
+    ensures { InPart (n (task_in task.now)) (d (task_in task.now)) q result }
 {
-    row_of(index, 0, VARIABLE_WIDTH, variables(file), q)
+    row_of(task.index, 0, VARIABLE_WIDTH, variables(task.file), q)
 }
 
 // The variable of pair q of all pairs of values of one variable.
-pub fn variable_of_pair(file: &[u8], index: &[u16], q: usize) -> usize
-    requires { Indexed file.now index.now × (q < value_pairs_before (task_of file.now) (n (task_of file.now))) }
-    ensures { InPart (n (task_of file.now)) (λ x. pairs_below (d (task_of file.now) x)) q result }
+pub fn variable_of_pair(task: &IndexedFile, q: usize) -> usize
+    requires { q < value_pairs_before (task_in task.now) (n (task_in task.now)) }
+    ensures { InPart (n (task_in task.now)) (λ x. pairs_below (d (task_in task.now) x)) q result }
 {
-    row_of(index, 1, VARIABLE_WIDTH, variables(file), q)
+    row_of(task.index, 1, VARIABLE_WIDTH, variables(task.file), q)
 }
 
 // The action of precondition q of all preconditions.
-pub fn action_of_precondition(file: &[u8], index: &[u16], q: usize) -> usize
-    requires { Indexed file.now index.now × (q < preconditions_before (task_of file.now) (actionCount (task_of file.now))) }
-    ensures { InPart (actionCount (task_of file.now)) (λ a. length (action (task_of file.now) a).preconditions) q result }
+pub fn action_of_precondition(task: &IndexedFile, q: usize) -> usize
+    requires { q < preconditions_before (task_in task.now) (actionCount (task_in task.now)) }
+    ensures { InPart (actionCount (task_in task.now)) (λ a. length (action (task_in task.now) a).preconditions) q result }
 {
-    row_of(index, ACTIONS_AT + 1, ACTION_WIDTH, actions(file, index), q)
+    row_of(task.index, ACTIONS_AT + 1, ACTION_WIDTH, actions(task), q)
 }
 
 // The action of effect q of all effects.
-pub fn action_of_effect(file: &[u8], index: &[u16], q: usize) -> usize
-    requires { Indexed file.now index.now × (q < effects_before (task_of file.now) (actionCount (task_of file.now))) }
-    ensures { InPart (actionCount (task_of file.now)) (λ a. length (action (task_of file.now) a).effects) q result }
+pub fn action_of_effect(task: &IndexedFile, q: usize) -> usize
+    requires { q < effects_before (task_in task.now) (actionCount (task_in task.now)) }
+    ensures { InPart (actionCount (task_in task.now)) (λ a. length (action (task_in task.now) a).effects) q result }
 {
-    row_of(index, ACTIONS_AT + 2, ACTION_WIDTH, actions(file, index), q)
+    row_of(task.index, ACTIONS_AT + 2, ACTION_WIDTH, actions(task), q)
 }

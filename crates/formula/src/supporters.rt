@@ -7,11 +7,13 @@ ghost use Rattle.rules.specs.Families.{supporters};
 ghost use Rattle.rules.specs.File.{task_of};
 ghost use Rattle.task.specs.Index.{Indexed};
 ghost use Rattle.formula.specs.Front.{written, gives_by, is_given, supporter};
+ghost use Rattle.task.specs.Asked.{task_in};
 
 use crate::numbers::action_at;
 use crate::written::put_plus;
 use task::asked::{effect, effect_count};
 use task::index::actions;
+use task::indexed::{Asked, IndexedFile};
 use task::numbering::{ValuePlace, nth_action, value_place};
 
 // Whether a pair is x = v.
@@ -22,43 +24,33 @@ fn is_pair(pair: ValuePlace, x: usize, v: usize) -> bool
 }
 
 // Whether effect i of action a is x = v.
-fn gives(file: &[u8], index: &[u16], a: usize, x: usize, v: usize, i: usize) -> bool
-    requires { Indexed file.now index.now × (a < actionCount (task_of file.now)) × (i < length (action (task_of file.now) a).effects) }
-    ensures { result ≡ gives_by (task_of file.now) a x v i }
+fn gives(task: &IndexedFile, a: usize, x: usize, v: usize, i: usize) -> bool
+    requires { (a < actionCount (task_in task.now)) × (i < length (action (task_in task.now) a).effects) }
+    ensures { result ≡ gives_by (task_in task.now) a x v i }
 {
-    is_pair(effect(file, index, nth_action(a), i), x, v)
+    is_pair(effect(task, nth_action(a), i), x, v)
 }
 
 // Whether action a has the effect x = v.
-fn is_given(file: &[u8], index: &[u16], a: usize, x: usize, v: usize) -> bool
-    requires { Indexed file.now index.now × (a < actionCount (task_of file.now)) }
-    ensures { result ≡ is_given (task_of file.now) a x v }
+fn is_given(task: &IndexedFile, a: usize, x: usize, v: usize) -> bool
+    requires { a < actionCount (task_in task.now) }
+    ensures { result ≡ is_given (task_in task.now) a x v }
 {
-    (0..effect_count(file, index, nth_action(a))).any(|i| gives(file, index, a, x, v, i))
+    (0..effect_count(task, nth_action(a))).any(|i| gives(task, a, x, v, i))
 }
 
 // How many actions have the effect x = v.
-pub fn supporter_count(
-    file: &[u8],
-    index: &[u16],
-    horizon: usize,
-    s: usize,
-    x: usize,
-    v: usize,
-) -> usize
-    requires { Indexed file.now index.now }
-    ensures { (result ≡ length (supporters (problem (task_of file.now) horizon) s x v)) × (result ≤ actionCount (task_of file.now)) }
+pub fn supporter_count(task: &IndexedFile, horizon: usize, s: usize, x: usize, v: usize) -> usize
+    ensures { (result ≡ length (supporters (problem (task_in task.now) horizon) s x v)) × (result ≤ actionCount (task_in task.now)) }
 {
-    (0..actions(file, index))
-        .filter(|a| is_given(file, index, *a, x, v))
+    (0..actions(task))
+        .filter(|a| is_given(task, *a, x, v))
         .count()
 }
 
 // Action a's literal, where it has the effect x = v; the place behind it.
 fn put_supporter(
-    file: &[u8],
-    index: &[u16],
-    horizon: usize,
+    asked: &Asked,
     s: usize,
     x: usize,
     v: usize,
@@ -66,36 +58,27 @@ fn put_supporter(
     out: &mut [i32],
     at: usize,
 ) -> usize
-    requires { Indexed file.now index.now × (horizon ≤ max_horizon) × (s < horizon) × (a < actionCount (task_of file.now))
-        × (at + length (supporter (problem (task_of file.now) horizon) s x v a) ≤ length out.old) }
-    ensures { (out.new ≡ written out.old at (supporter (problem (task_of file.now) horizon) s x v a))
-        × (result ≡ at + length (supporter (problem (task_of file.now) horizon) s x v a)) }
+    requires { (s < asked.now.horizon) × (a < actionCount (task_in asked.now.task))
+        × (at + length (supporter (problem (task_in asked.now.task) asked.now.horizon) s x v a) ≤ length out.old) }
+    ensures { (out.new ≡ written out.old at (supporter (problem (task_in asked.now.task) asked.now.horizon) s x v a))
+        × (result ≡ at + length (supporter (problem (task_in asked.now.task) asked.now.horizon) s x v a)) }
 {
-    if is_given(file, index, a, x, v) {
-        put_plus(out, at, action_at(file, index, horizon, s, a));
+    if is_given(&asked.task, a, x, v) {
+        put_plus(out, at, action_at(asked, s, a));
         return at + 1;
     }
     at
 }
 
 // The literals of all actions with the effect x = v, from a place on.
-pub fn put_supporters(
-    file: &[u8],
-    index: &[u16],
-    horizon: usize,
-    s: usize,
-    x: usize,
-    v: usize,
-    out: &mut [i32],
-    from: usize,
-)
-    requires { Indexed file.now index.now × (horizon ≤ max_horizon) × (s < horizon)
-        × (from + length (supporters (problem (task_of file.now) horizon) s x v) ≤ length out.old) }
-    ensures { out.new ≡ written out.old from (supporters (problem (task_of file.now) horizon) s x v) }
+pub fn put_supporters(asked: &Asked, s: usize, x: usize, v: usize, out: &mut [i32], from: usize)
+    requires { (s < asked.now.horizon)
+        × (from + length (supporters (problem (task_in asked.now.task) asked.now.horizon) s x v) ≤ length out.old) }
+    ensures { out.new ≡ written out.old from (supporters (problem (task_in asked.now.task) asked.now.horizon) s x v) }
 {
-    let all = actions(file, index);
+    let all = actions(&asked.task);
     let mut at = from;
     for a in 0..all {
-        at = put_supporter(file, index, horizon, s, x, v, a, out, at);
+        at = put_supporter(asked, s, x, v, a, out, at);
     }
 }

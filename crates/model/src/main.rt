@@ -12,7 +12,7 @@ use output::feeding;
 use output::feeding::{Feed, LINE_ROOM};
 use parts::{FIRST_ROOM, ROW_WORDS, TEXT_ROOM};
 
-// Standard input, by its number.
+// Standard input, by its number. By the kit's `io`, where a read that fails is the end: so the functions here promise what they do without an error.
 const STDIN_FILENO: i32 = 0;
 
 // Standard output, by its number.

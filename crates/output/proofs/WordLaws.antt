@@ -72,9 +72,6 @@ module _ (b : ℕ) (r : Bool) (e : r ≡ is_digit b) (t : not r ≡ false) where
   digit_worth : b - digit0 < 256
   digit_worth = omega (arith, leb-true b (digit0 + 9) (and_right (leb digit0 b) (leb b (digit0 + 9)) digit))
 
-  pub digit_fits : Fits w64 (b - digit0)
-  digit_fits = record { fits = omega (arith, digit_worth) }
-
   module _ (i m : ℕ) (l : i < max_digits) (h : m < 256 ^ i) where
     pub run_tenfold : Fits w64 (10 * m)
     run_tenfold = room_tenfold i max_digits m l (omega arith) h

@@ -51,7 +51,7 @@ fn digit_run(bytes: &[u8]) -> Run
         if !lent_bytes::words::is_digit(b) {
             return Run { bytes: i, value };
         }
-        value = 10 * value + (b - b'0') as usize;
+        value = 10 * value + usize::from(b - b'0');
     }
     Run { bytes: most, value }
 }

@@ -236,7 +236,7 @@ fn run(
 }
 
 fn main(rt: HostRuntime) {
-    // the kit's `io`: std reads an input of unknown length only into a `Vec`
+    // the kit's `io` fills the room in one call; by std's `Read` it would be a loop of reads
     let mut input = io::large_buffer();
     let mut given = [0u64; ROW_WORDS];
     let mut truth = [0u64; ROW_WORDS];

@@ -8,6 +8,7 @@ ghost use Rattle.formula.specs.InFamily.{place_number};
 ghost use Rattle.exclusions.specs.Exclusions.{pair_room};
 ghost use Rattle.lines.specs.AtPlace.{PairRoomFor};
 ghost use Rattle.parts.specs.Runs.{PutPart, PutPairs};
+ghost use Rattle.task.specs.Asked.{task_in, file_asked};
 
 use crate::single::{PAIR_ROOM, Part};
 use exclusions::put_exclusions;
@@ -15,6 +16,7 @@ use formula::numbers::{action_at, value_at};
 use pairs::{number_of_pair, pairs_below};
 use task::asked::size;
 use task::index::actions;
+use task::indexed::Asked;
 use task::numbering::number_of;
 
 // The lines of the pairs below count from (first, second) on, their numbers counted from base on.
@@ -37,27 +39,23 @@ fn put_pairs(
 
 // Two actions of a step, from a and b on.
 pub fn put_two_actions(
-    file: &[u8],
-    index: &[u16],
-    horizon: usize,
+    asked: &Asked,
     s: usize,
     a: usize,
     b: usize,
     out: &mut [u8],
     at: usize,
 ) -> Part
-    requires { Indexed file.now index.now × (horizon ≤ max_horizon) × PairRoomFor file.now horizon (Place.TwoActions s a b) at (length out.old) }
-    ensures { PutPart file.now horizon (place_number (task_of file.now) horizon (Place.TwoActions s a b)) out.old at result.lines out.new result.end }
+    requires { PairRoomFor (file_asked asked.now) asked.now.horizon (Place.TwoActions s a b) at (length out.old) }
+    ensures { PutPart (file_asked asked.now) asked.now.horizon (place_number (task_in asked.now.task) asked.now.horizon (Place.TwoActions s a b)) out.old at result.lines out.new result.end }
 {
-    let base = number_of(action_at(file, index, horizon, s, 0));
-    put_pairs(out, at, base, actions(file, index), a, b)
+    let base = number_of(action_at(asked, s, 0));
+    put_pairs(out, at, base, actions(&asked.task), a, b)
 }
 
 // Two values of a variable at a step, from v and w on.
 pub fn put_two_values(
-    file: &[u8],
-    index: &[u16],
-    horizon: usize,
+    asked: &Asked,
     s: usize,
     x: usize,
     v: usize,
@@ -65,9 +63,9 @@ pub fn put_two_values(
     out: &mut [u8],
     at: usize,
 ) -> Part
-    requires { Indexed file.now index.now × (horizon ≤ max_horizon) × PairRoomFor file.now horizon (Place.TwoValues s x v w) at (length out.old) }
-    ensures { PutPart file.now horizon (place_number (task_of file.now) horizon (Place.TwoValues s x v w)) out.old at result.lines out.new result.end }
+    requires { PairRoomFor (file_asked asked.now) asked.now.horizon (Place.TwoValues s x v w) at (length out.old) }
+    ensures { PutPart (file_asked asked.now) asked.now.horizon (place_number (task_in asked.now.task) asked.now.horizon (Place.TwoValues s x v w)) out.old at result.lines out.new result.end }
 {
-    let base = number_of(value_at(file, index, horizon, s, x, 0));
-    put_pairs(out, at, base, size(file, x), v, w)
+    let base = number_of(value_at(asked, s, x, 0));
+    put_pairs(out, at, base, size(asked.task.file, x), v, w)
 }

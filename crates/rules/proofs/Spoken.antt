@@ -15,7 +15,7 @@ use Rattle.rules.specs.Counting.{first, every, any}
 use Rattle.rules.specs.Limits.{max_digits, max_line}
 use Rattle.rules.specs.File.{byte}
 use Rattle.rules.specs.Families.{Literal, plus, minus}
-use Rattle.rules.specs.Answers.{judge}
+use Rattle.rules.specs.Answers.{judge, LineAnswer}
 use Rattle.rules.specs.Rows.{Rows, bit_of_variable, store, store_all}
 use Rattle.rules.specs.declared.Phase.TheVariants.{NoStatus, ModelOpen, ModelClosed}
 use Rattle.rules.specs.Text.{ascii, space, digit0, dash, decimal, literal_text}

@@ -3,7 +3,7 @@
 use Rattle.std.specs.Prelude.{ℕ, suc, ◌-◌, cond, ◌&&◌, List, [], ◌∷◌, ◌++◌, map, leb, ltb, ℤ, length, take, drop, Ok, Err}
 use Rattle.rules.specs.Counting.{joined}
 use Rattle.rules.specs.Limits.{max_horizon}
-use Rattle.rules.specs.Answers.{Rule, demand, judge, in_turn, Verdict}
+use Rattle.rules.specs.Answers.{Rule, demand, judge, in_turn, Verdict, LineAnswer}
 use Rattle.rules.specs.File.{task_of, file_rules}
 use Rattle.rules.specs.Problem.{Problem, problem}
 use Rattle.rules.specs.Numbering.{N}

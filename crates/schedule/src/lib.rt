@@ -13,6 +13,7 @@ ghost use Rattle.schedule.specs.Written.{lent};
 use rules::Refusal;
 use task::filling::fill_index;
 use task::index::INDEX_LENGTH;
+use task::indexed::{Asked, IndexedFile};
 use task::problem::problem_verdict;
 
 // Whether a schedule is good, without rows.
@@ -25,7 +26,12 @@ pub fn schedule_checked(file: &[u8], horizon: usize, entries: &[u32]) -> Result<
     }
     let mut index = [0u16; INDEX_LENGTH];
     fill_index(file, &mut index);
-    walking::schedule_verdict(file, &index, horizon, entries)
+    let task = IndexedFile {
+        file,
+        index: &index,
+    };
+    let asked = Asked { task, horizon };
+    walking::schedule_verdict(&asked, entries)
 }
 
 // The way back: a good schedule becomes both rows, every needed word written; a refusal leaves all as found.
@@ -42,5 +48,10 @@ pub fn way_back(
     problem_verdict(file, horizon)?;
     let mut index = [0u16; INDEX_LENGTH];
     fill_index(file, &mut index);
-    back::way_back_of(file, &index, horizon, entries, given, truth)
+    let task = IndexedFile {
+        file,
+        index: &index,
+    };
+    let asked = Asked { task, horizon };
+    back::way_back_of(&asked, entries, given, truth)
 }

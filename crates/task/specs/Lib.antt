@@ -1,4 +1,5 @@
 -- What the contracts cite beside the rules: the families of clauses, the index of an accepted file, and formula numbers.
 pub mod Families
+pub mod Asked
 pub mod Index
 pub mod Numbers

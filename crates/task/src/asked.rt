@@ -4,8 +4,10 @@ ghost use Rattle.rules.specs.Limits.{byte_values, pair_bytes};
 ghost use Rattle.rules.specs.Task.{n, d, A as actionCount, start_value, pair, action};
 ghost use Rattle.rules.specs.File.{byte, task_of, file_verdict};
 ghost use Rattle.task.specs.Index.{action_place, Indexed};
+ghost use Rattle.task.specs.Asked.{task_in, file_in};
 
 use crate::index::action_place;
+use crate::indexed::IndexedFile;
 use crate::numbering::{ActionNumber, ValuePlace, place_of_action, value_place};
 use reader::contents::{body_length, body_start, byte_at};
 use reader::limits::{CONTENTS_BYTES, COUNT_BYTES, PAIR_BYTES};
@@ -68,49 +70,49 @@ pub fn goal_pair(file: &[u8], i: usize) -> ValuePlace
 }
 
 // The place of an action's first byte.
-fn first_byte(file: &[u8], index: &[u16], a: ActionNumber) -> usize
-    requires { Indexed file.now index.now × (a.0 < actionCount (task_of file.now)) }
-    ensures { result ≡ action_place file.now a.0 }
+fn first_byte(task: &IndexedFile, a: ActionNumber) -> usize
+    requires { a.0 < actionCount (task_in task.now) }
+    ensures { result ≡ action_place (file_in task.now) a.0 }
 {
-    action_place(file, index, place_of_action(a))
+    action_place(task, place_of_action(a))
 }
 
 // How many preconditions an action has.
-pub fn precondition_count(file: &[u8], index: &[u16], a: ActionNumber) -> usize
-    requires { Indexed file.now index.now × (a.0 < actionCount (task_of file.now)) }
-    ensures { result ≡ length (action (task_of file.now) a.0).preconditions }
+pub fn precondition_count(task: &IndexedFile, a: ActionNumber) -> usize
+    requires { a.0 < actionCount (task_in task.now) }
+    ensures { result ≡ length (action (task_in task.now) a.0).preconditions }
 {
-    byte_behind(file, first_byte(file, index, a), 0)
+    byte_behind(task.file, first_byte(task, a), 0)
 }
 
 // How many effects an action has.
-pub fn effect_count(file: &[u8], index: &[u16], a: ActionNumber) -> usize
-    requires { Indexed file.now index.now × (a.0 < actionCount (task_of file.now)) }
-    ensures { result ≡ length (action (task_of file.now) a.0).effects }
+pub fn effect_count(task: &IndexedFile, a: ActionNumber) -> usize
+    requires { a.0 < actionCount (task_in task.now) }
+    ensures { result ≡ length (action (task_in task.now) a.0).effects }
 {
-    byte_behind(file, first_byte(file, index, a), 1)
+    byte_behind(task.file, first_byte(task, a), 1)
 }
 
 // Precondition i of an action.
-pub fn precondition(file: &[u8], index: &[u16], a: ActionNumber, i: usize) -> ValuePlace
-    requires { Indexed file.now index.now × (a.0 < actionCount (task_of file.now)) × (i < length (action (task_of file.now) a.0).preconditions) }
-    ensures { (result.0 ≡ (pair (action (task_of file.now) a.0).preconditions i).variable)
-        × (result.1 ≡ (pair (action (task_of file.now) a.0).preconditions i).value) }
+pub fn precondition(task: &IndexedFile, a: ActionNumber, i: usize) -> ValuePlace
+    requires { (a.0 < actionCount (task_in task.now)) × (i < length (action (task_in task.now) a.0).preconditions) }
+    ensures { (result.0 ≡ (pair (action (task_in task.now) a.0).preconditions i).variable)
+        × (result.1 ≡ (pair (action (task_in task.now) a.0).preconditions i).value) }
 {
-    pair_behind(file, first_byte(file, index, a), COUNT_BYTES, i)
+    pair_behind(task.file, first_byte(task, a), COUNT_BYTES, i)
 }
 
 // Effect i of an action.
-pub fn effect(file: &[u8], index: &[u16], a: ActionNumber, i: usize) -> ValuePlace
-    requires { Indexed file.now index.now × (a.0 < actionCount (task_of file.now)) × (i < length (action (task_of file.now) a.0).effects) }
-    ensures { (result.0 ≡ (pair (action (task_of file.now) a.0).effects i).variable)
-        × (result.1 ≡ (pair (action (task_of file.now) a.0).effects i).value) }
+pub fn effect(task: &IndexedFile, a: ActionNumber, i: usize) -> ValuePlace
+    requires { (a.0 < actionCount (task_in task.now)) × (i < length (action (task_in task.now) a.0).effects) }
+    ensures { (result.0 ≡ (pair (action (task_in task.now) a.0).effects i).variable)
+        × (result.1 ≡ (pair (action (task_in task.now) a.0).effects i).value) }
 {
-    let place = first_byte(file, index, a);
+    let place = first_byte(task, a);
     pair_behind(
-        file,
+        task.file,
         place,
-        COUNT_BYTES + PAIR_BYTES * byte_behind(file, place, 0),
+        COUNT_BYTES + PAIR_BYTES * byte_behind(task.file, place, 0),
         i,
     )
 }

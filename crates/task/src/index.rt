@@ -5,7 +5,9 @@ ghost use Rattle.rules.specs.Task.{off, S, A as actionCount};
 ghost use Rattle.rules.specs.Numbering.{stride};
 ghost use Rattle.rules.specs.File.{task_of};
 ghost use Rattle.task.specs.Index.{Indexed, action_place, value_pairs_before, preconditions_before, effects_before};
+ghost use Rattle.task.specs.Asked.{task_in, file_in};
 
+use crate::indexed::IndexedFile;
 use reader::limits::{MAX_ACTIONS, MAX_VARIABLES};
 
 // How many numbers a row has, where the rows of the actions begin, where their count stands, and the whole length.
@@ -24,69 +26,67 @@ pub fn number_in(index: &[u16], at: usize) -> usize
     requires { at < length index.now }
     ensures { result ≡ get_or index.now at 0 }
 {
+    // `as`, since with `usize::from` the clause program was slower.
     index[at] as usize
 }
 
 // off(x), also for x = n.
-pub fn offset(file: &[u8], index: &[u16], x: usize) -> usize
-    requires { Indexed file.now index.now × (x ≤ max_variables) }
-    ensures { result ≡ off (task_of file.now) x }
+pub fn offset(task: &IndexedFile, x: usize) -> usize
+    requires { x ≤ max_variables }
+    ensures { result ≡ off (task_in task.now) x }
 {
-    number_in(index, VARIABLE_WIDTH * x)
+    number_in(task.index, VARIABLE_WIDTH * x)
 }
 
 // The pairs of values of one variable, of the variables before x together.
-pub fn value_pairs_before(file: &[u8], index: &[u16], x: usize) -> usize
-    requires { Indexed file.now index.now × (x ≤ max_variables) }
-    ensures { result ≡ value_pairs_before (task_of file.now) x }
+pub fn value_pairs_before(task: &IndexedFile, x: usize) -> usize
+    requires { x ≤ max_variables }
+    ensures { result ≡ value_pairs_before (task_in task.now) x }
 {
-    number_in(index, VARIABLE_WIDTH * x + 1)
+    number_in(task.index, VARIABLE_WIDTH * x + 1)
 }
 
 // S.
-pub fn values(file: &[u8], index: &[u16]) -> usize
-    requires { Indexed file.now index.now }
-    ensures { result ≡ S (task_of file.now) }
+pub fn values(task: &IndexedFile) -> usize
+    ensures { result ≡ S (task_in task.now) }
 {
-    number_in(index, VARIABLE_WIDTH * MAX_VARIABLES)
+    number_in(task.index, VARIABLE_WIDTH * MAX_VARIABLES)
 }
 
 // A.
-pub fn actions(file: &[u8], index: &[u16]) -> usize
-    requires { Indexed file.now index.now }
-    ensures { result ≡ actionCount (task_of file.now) }
+pub fn actions(task: &IndexedFile) -> usize
+    ensures { result ≡ actionCount (task_in task.now) }
 {
-    number_in(index, COUNT_AT)
+    number_in(task.index, COUNT_AT)
 }
 
 // How far apart the numbers of one thing are at two steps in a row: S + A.
-pub fn step_width(file: &[u8], index: &[u16]) -> usize
-    requires { Indexed file.now index.now }
-    ensures { result ≡ stride (task_of file.now) }
+pub fn step_width(task: &IndexedFile) -> usize
+    ensures { result ≡ stride (task_in task.now) }
 {
-    values(file, index) + actions(file, index)
+    values(task) + actions(task)
 }
 
 // The place in the file of action a's first byte; for a = A the file's end.
-pub fn action_place(file: &[u8], index: &[u16], a: usize) -> usize
-    requires { Indexed file.now index.now × (a ≤ max_actions) }
-    ensures { result ≡ action_place file.now a }
+pub fn action_place(task: &IndexedFile, a: usize) -> usize
+    requires { a ≤ max_actions }
+    ensures { result ≡ action_place (file_in task.now) a }
 {
-    number_in(index, ACTIONS_AT + ACTION_WIDTH * a)
+    number_in(task.index, ACTIONS_AT + ACTION_WIDTH * a)
 }
 
 // The preconditions of the actions before a together.
-pub fn preconditions_before(file: &[u8], index: &[u16], a: usize) -> usize
-    requires { Indexed file.now index.now × (a ≤ max_actions) }
-    ensures { result ≡ preconditions_before (task_of file.now) a }
+pub fn preconditions_before(task: &IndexedFile, a: usize) -> usize
+    requires { a ≤ max_actions }
+    ensures { result ≡ preconditions_before (task_in task.now) a }
 {
-    number_in(index, ACTIONS_AT + ACTION_WIDTH * a + 1)
+    number_in(task.index, ACTIONS_AT + ACTION_WIDTH * a + 1)
 }
 
 // The effects of the actions before a together.
-pub fn effects_before(file: &[u8], index: &[u16], a: usize) -> usize
-    requires { Indexed file.now index.now × (a ≤ max_actions) }
-    ensures { result ≡ effects_before (task_of file.now) a }
+pub fn effects_before(task: &IndexedFile, a: usize) -> usize
+    requires { a ≤ max_actions }
+    ensures { result ≡ effects_before (task_in task.now) a }
 {
-    number_in(index, ACTIONS_AT + ACTION_WIDTH * a + 2)
+    number_in(task.index, ACTIONS_AT + ACTION_WIDTH * a + 2)
 }

@@ -8,5 +8,6 @@ pub mod asked;
 pub mod family;
 pub mod filling;
 pub mod index;
+pub mod indexed;
 pub mod numbering;
 pub mod problem;

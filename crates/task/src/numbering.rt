@@ -7,8 +7,10 @@ ghost use Rattle.rules.specs.Numbering.{value_number, action_number};
 ghost use Rattle.rules.specs.File.{task_of};
 ghost use Rattle.task.specs.Index.{Indexed};
 ghost use Rattle.task.specs.Numbers.{at_any_horizon, number_read};
+ghost use Rattle.task.specs.Asked.{task_in, file_in};
 
 use crate::index::{offset, step_width, values};
+use crate::indexed::IndexedFile;
 
 // A variable and one of its values.
 #[derive(Clone, Copy, PartialEq, Eq)]
@@ -67,27 +69,19 @@ fn numbered(step: usize, width: usize, place: usize) -> FormulaNumber
 }
 
 // Value v of variable x at a step, from 0; at every horizon the same.
-pub fn value_number(file: &[u8], index: &[u16], step: usize, place: ValuePlace) -> FormulaNumber
-    requires { Indexed file.now index.now × (step ≤ max_horizon) × (place.0 < n (task_of file.now)) × (place.1 < d (task_of file.now) place.0) }
-    ensures { result.0 ≡ value_number (at_any_horizon file.now) step place.0 place.1 }
+pub fn value_number(task: &IndexedFile, step: usize, place: ValuePlace) -> FormulaNumber
+    requires { (step ≤ max_horizon) × (place.0 < n (task_in task.now)) × (place.1 < d (task_in task.now) place.0) }
+    ensures { result.0 ≡ value_number (at_any_horizon (file_in task.now)) step place.0 place.1 }
 {
-    numbered(
-        step,
-        step_width(file, index),
-        offset(file, index, place.0) + place.1,
-    )
+    numbered(step, step_width(task), offset(task, place.0) + place.1)
 }
 
 // Action a at a step, from 0; at every horizon the same.
-pub fn action_number(file: &[u8], index: &[u16], step: usize, action: ActionNumber) -> FormulaNumber
-    requires { Indexed file.now index.now × (step ≤ max_horizon) × (action.0 < actionCount (task_of file.now)) }
-    ensures { result.0 ≡ action_number (at_any_horizon file.now) step action.0 }
+pub fn action_number(task: &IndexedFile, step: usize, action: ActionNumber) -> FormulaNumber
+    requires { (step ≤ max_horizon) × (action.0 < actionCount (task_in task.now)) }
+    ensures { result.0 ≡ action_number (at_any_horizon (file_in task.now)) step action.0 }
 {
-    numbered(
-        step,
-        step_width(file, index),
-        values(file, index) + action.0,
-    )
+    numbered(step, step_width(task), values(task) + action.0)
 }
 
 // A number that was read: a formula number if it is one of 1 to N.

@@ -4,8 +4,10 @@ ghost use Rattle.rules.specs.Limits.{max_horizon};
 ghost use Rattle.rules.specs.Numbering.{N};
 ghost use Rattle.rules.specs.Calls.{problem_of, problem_verdict};
 ghost use Rattle.task.specs.Index.{Indexed};
+ghost use Rattle.task.specs.Asked.{problem_asked};
 
 use crate::index::{step_width, values};
+use crate::indexed::Asked;
 use reader::file::file_verdict;
 use rules::Refusal;
 
@@ -23,9 +25,8 @@ pub fn problem_verdict(file: &[u8], horizon: usize) -> Result<(), Refusal>
 }
 
 // N, of an accepted file with its index.
-pub fn count_variables(file: &[u8], index: &[u16], horizon: usize) -> usize
-    requires { Indexed file.now index.now × (horizon ≤ max_horizon) }
-    ensures { result ≡ N (problem_of file.now horizon) }
+pub fn count_variables(asked: &Asked) -> usize
+    ensures { result ≡ N (problem_asked asked.now) }
 {
-    horizon * step_width(file, index) + values(file, index)
+    asked.horizon * step_width(&asked.task) + values(&asked.task)
 }

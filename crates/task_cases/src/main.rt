@@ -8,11 +8,13 @@ ghost use Rattle.std.specs.Prelude.{◌≡◌, ◌+◌, ◌<◌, ◌≤◌, leng
 ghost use Rattle.rules.specs.Task.{n, A as actionCount};
 ghost use Rattle.rules.specs.File.{task_of, file_verdict};
 ghost use Rattle.task.specs.Index.{Indexed};
+ghost use Rattle.task.specs.Asked.{task_in};
 
 use rules::Refusal;
 use showing::print_verdict;
 use std::io::Result;
 use task::index::INDEX_LENGTH;
+use task::indexed::IndexedFile;
 use task::numbering::{ActionNumber, ValuePlace};
 
 // Standard input, by its number.
@@ -46,21 +48,19 @@ fn print_place(rt: &impl Print, place: ValuePlace) -> Result<()> {
     )
 }
 
-fn print_start_value(rt: &impl Print, file: &[u8], index: &[u16], x: usize) -> Result<()>
-    requires { Indexed file.now index.now × (x < n (task_of file.now)) }
+fn print_start_value(rt: &impl Print, task: &IndexedFile, x: usize) -> Result<()>
+    requires { x < n (task_in task.now) }
 {
-    let place = task::numbering::value_place(x, task::asked::start_value(file, x));
+    let place = task::numbering::value_place(x, task::asked::start_value(task.file, x));
     print_place(rt, place)?;
-    let number = task::numbering::value_number(file, index, 0, place);
+    let number = task::numbering::value_number(task, 0, place);
     print!(rt; " as {}", task::numbering::number_of(number))
 }
 
-fn print_start(rt: &impl Print, file: &[u8], index: &[u16]) -> Result<()>
-    requires { Indexed file.now index.now }
-{
+fn print_start(rt: &impl Print, task: &IndexedFile) -> Result<()> {
     print!(rt; "; start")?;
-    for x in 0..task::asked::variables(file) {
-        print_start_value(rt, file, index, x)?;
+    for x in 0..task::asked::variables(task.file) {
+        print_start_value(rt, task, x)?;
     }
     Ok(())
 }
@@ -75,51 +75,49 @@ fn print_goal(rt: &impl Print, file: &[u8]) -> Result<()>
     Ok(())
 }
 
-fn print_preconditions(rt: &impl Print, file: &[u8], index: &[u16], a: ActionNumber) -> Result<()>
-    requires { Indexed file.now index.now × (a.0 < actionCount (task_of file.now)) }
+fn print_preconditions(rt: &impl Print, task: &IndexedFile, a: ActionNumber) -> Result<()>
+    requires { a.0 < actionCount (task_in task.now) }
 {
     print!(rt; " needs")?;
-    for i in 0..task::asked::precondition_count(file, index, a) {
-        print_place(rt, task::asked::precondition(file, index, a, i))?;
+    for i in 0..task::asked::precondition_count(task, a) {
+        print_place(rt, task::asked::precondition(task, a, i))?;
     }
     Ok(())
 }
 
-fn print_effects(rt: &impl Print, file: &[u8], index: &[u16], a: ActionNumber) -> Result<()>
-    requires { Indexed file.now index.now × (a.0 < actionCount (task_of file.now)) }
+fn print_effects(rt: &impl Print, task: &IndexedFile, a: ActionNumber) -> Result<()>
+    requires { a.0 < actionCount (task_in task.now) }
 {
     print!(rt; " sets")?;
-    for i in 0..task::asked::effect_count(file, index, a) {
-        print_place(rt, task::asked::effect(file, index, a, i))?;
+    for i in 0..task::asked::effect_count(task, a) {
+        print_place(rt, task::asked::effect(task, a, i))?;
     }
     Ok(())
 }
 
-fn print_action(rt: &impl Print, file: &[u8], index: &[u16], a: usize) -> Result<()>
-    requires { Indexed file.now index.now × (a < actionCount (task_of file.now)) }
+fn print_action(rt: &impl Print, task: &IndexedFile, a: usize) -> Result<()>
+    requires { a < actionCount (task_in task.now) }
 {
     let action = task::numbering::nth_action(a);
-    let number = task::numbering::action_number(file, index, 0, action);
+    let number = task::numbering::action_number(task, 0, action);
     print!(rt; "; {}", task::numbering::number_of(number))?;
-    print_preconditions(rt, file, index, action)?;
-    print_effects(rt, file, index, action)
+    print_preconditions(rt, task, action)?;
+    print_effects(rt, task, action)
 }
 
-fn print_task(rt: &impl Print, file: &[u8], index: &[u16]) -> Result<()>
-    requires { Indexed file.now index.now }
-{
-    let variables = task::asked::variables(file);
-    let values = task::index::values(file, index);
-    let actions = task::index::actions(file, index);
-    let goals = task::asked::goals(file);
+fn print_task(rt: &impl Print, task: &IndexedFile) -> Result<()> {
+    let variables = task::asked::variables(task.file);
+    let values = task::index::values(task);
+    let actions = task::index::actions(task);
+    let goals = task::asked::goals(task.file);
     print!(rt; "; n {variables}, S {values}, A {actions}, goal pairs {goals}")?;
-    print_start(rt, file, index)?;
-    print_goal(rt, file)?;
+    print_start(rt, task)?;
+    print_goal(rt, task.file)?;
     for a in 0..actions.min(SHOWN) {
-        print_action(rt, file, index, a)?;
+        print_action(rt, task, a)?;
     }
-    let preconditions = task::index::preconditions_before(file, index, actions);
-    let effects = task::index::effects_before(file, index, actions);
+    let preconditions = task::index::preconditions_before(task, actions);
+    let effects = task::index::effects_before(task, actions);
     print!(rt; "; all preconditions {preconditions}, effects {effects}")
 }
 
@@ -135,7 +133,13 @@ fn print_answers(rt: &impl Print, file: &[u8]) -> Result<()> {
     };
     let mut index = [0u16; INDEX_LENGTH];
     task::filling::fill_index(file, &mut index);
-    print_task(rt, file, &index)
+    print_task(
+        rt,
+        &IndexedFile {
+            file,
+            index: &index,
+        },
+    )
 }
 
 // ---- the lines
@@ -231,7 +235,7 @@ fn run(rt: &impl Print, text: &[u8], file: &mut [u8]) -> Result<()> {
 }
 
 fn main(rt: HostRuntime) {
-    // the kit's `io`: std reads an input of unknown length only into a `Vec`
+    // the kit's `io` fills the room in one call; by std's `Read` it would be a loop of reads
     let mut input = io::large_buffer();
     let n = io::read_full(STDIN_FILENO, &mut input);
     let mut file = [0; ROOM];

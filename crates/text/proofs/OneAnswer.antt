@@ -35,19 +35,19 @@ pub one_header_indexed : (κs : _) (a : _) (r s : TextAnswer) (x y : _) → head
 one_header_indexed κs a r s x y p q = p.0 ∙ sym q.0
 
 pub one_header_indexed_left : (κs : _) (a : _) (r s : TextAnswer) (x y : _) → header-indexed.Post κs a r x → header-indexed.Post κs a s y
-    → x.1.1.1.0.now ≡ y.1.1.1.0.now
+    → x.1.0.now ≡ y.1.0.now
 one_header_indexed_left κs a r s x y p q = p.1 ∙ sym q.1
 
 pub one_clause_line_indexed : (κs : _) (a : _) (r s : TextAnswer) (x y : _) → clause-line-indexed.Post κs a r x → clause-line-indexed.Post κs a s y → r ≡ s
 one_clause_line_indexed κs a r s x y p q = p.0 ∙ sym q.0
 
 pub one_clause_line_indexed_left : (κs : _) (a : _) (r s : TextAnswer) (x y : _) → clause-line-indexed.Post κs a r x → clause-line-indexed.Post κs a s y
-    → x.1.1.1.1.0.now ≡ y.1.1.1.1.0.now
+    → x.1.1.0.now ≡ y.1.1.0.now
 one_clause_line_indexed_left κs a r s x y p q = p.1 ∙ sym q.1
 
 pub one_lines_indexed : (κs : _) (a : _) (r s : TextAnswer) (x y : _) → lines-indexed.Post κs a r x → lines-indexed.Post κs a s y → r ≡ s
 one_lines_indexed κs a r s x y p q = p.0 ∙ sym q.0
 
 pub one_lines_indexed_left : (κs : _) (a : _) (r s : TextAnswer) (x y : _) → lines-indexed.Post κs a r x → lines-indexed.Post κs a s y
-    → x.1.1.1.1.0.now ≡ y.1.1.1.1.0.now
+    → x.1.1.0.now ≡ y.1.1.0.now
 one_lines_indexed_left κs a r s x y p q = p.1 ∙ sym q.1

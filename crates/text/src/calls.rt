@@ -4,6 +4,7 @@ ghost use Rattle.rules.specs.Limits.{max_horizon};
 ghost use Rattle.rules.specs.Calls.{header_after, clause_line_after, lines_after};
 ghost use Rattle.task.specs.Index.{Indexed};
 ghost use Rattle.text.specs.Said.{header_answer, clause_line_answer, lines_answer};
+ghost use Rattle.task.specs.Asked.{file_asked};
 
 use crate::header::{HEADER_ROOM, put_header};
 use crate::runs::{Run, put_run};
@@ -12,21 +13,16 @@ use parts::single::{copy, put_one};
 use rules::Refusal;
 use task::filling::fill_index;
 use task::index::INDEX_LENGTH;
+use task::indexed::{Asked, IndexedFile};
 use task::problem::problem_verdict;
 
 // The same as `header`, of an accepted file with its index.
-pub fn header_indexed(
-    file: &[u8],
-    index: &[u16],
-    horizon: usize,
-    out: &mut [u8],
-) -> Result<Run, Refusal>
-    requires { Indexed file.now index.now × (horizon ≤ max_horizon) }
-    ensures { (result ≡ header_answer file.now horizon (length out.old))
-        × (out.new ≡ header_after file.now horizon out.old) }
+pub fn header_indexed(asked: &Asked, out: &mut [u8]) -> Result<Run, Refusal>
+    ensures { (result ≡ header_answer (file_asked asked.now) asked.now.horizon (length out.old))
+        × (out.new ≡ header_after (file_asked asked.now) asked.now.horizon out.old) }
 {
     let mut line = [0u8; HEADER_ROOM];
-    let bytes = put_header(file, index, horizon, &mut line);
+    let bytes = put_header(asked, &mut line);
     if out.len() < bytes {
         return Err(Refusal::Room);
     }
@@ -42,25 +38,23 @@ pub fn header(file: &[u8], horizon: usize, out: &mut [u8]) -> Result<Run, Refusa
     problem_verdict(file, horizon)?;
     let mut index = [0u16; INDEX_LENGTH];
     fill_index(file, &mut index);
-    header_indexed(file, &index, horizon, out)
+    let task = IndexedFile {
+        file,
+        index: &index,
+    };
+    let asked = Asked { task, horizon };
+    header_indexed(&asked, out)
 }
 
 // The same as `clause_line`, of an accepted file with its index.
-pub fn clause_line_indexed(
-    file: &[u8],
-    index: &[u16],
-    horizon: usize,
-    c: usize,
-    out: &mut [u8],
-) -> Result<Run, Refusal>
-    requires { Indexed file.now index.now × (horizon ≤ max_horizon) }
-    ensures { (result ≡ clause_line_answer file.now horizon c (length out.old))
-        × (out.new ≡ clause_line_after file.now horizon c out.old) }
+pub fn clause_line_indexed(asked: &Asked, c: usize, out: &mut [u8]) -> Result<Run, Refusal>
+    ensures { (result ≡ clause_line_answer (file_asked asked.now) asked.now.horizon c (length out.old))
+        × (out.new ≡ clause_line_after (file_asked asked.now) asked.now.horizon c out.old) }
 {
-    if count_clauses(file, index, horizon) <= c {
+    if count_clauses(asked) <= c {
         return Err(Refusal::ClauseNumber);
     }
-    let part = put_one(file, index, horizon, c, out, 0);
+    let part = put_one(asked, c, out, 0);
     if part.lines == 0 {
         return Err(Refusal::Room);
     }
@@ -78,26 +72,24 @@ pub fn clause_line(file: &[u8], horizon: usize, c: usize, out: &mut [u8]) -> Res
     problem_verdict(file, horizon)?;
     let mut index = [0u16; INDEX_LENGTH];
     fill_index(file, &mut index);
-    clause_line_indexed(file, &index, horizon, c, out)
+    let task = IndexedFile {
+        file,
+        index: &index,
+    };
+    let asked = Asked { task, horizon };
+    clause_line_indexed(&asked, c, out)
 }
 
 // The same as `lines`, of an accepted file with its index.
-pub fn lines_indexed(
-    file: &[u8],
-    index: &[u16],
-    horizon: usize,
-    c: usize,
-    out: &mut [u8],
-) -> Result<Run, Refusal>
-    requires { Indexed file.now index.now × (horizon ≤ max_horizon) }
-    ensures { (result ≡ lines_answer file.now horizon c (length out.old))
-        × (out.new ≡ lines_after file.now horizon c out.old) }
+pub fn lines_indexed(asked: &Asked, c: usize, out: &mut [u8]) -> Result<Run, Refusal>
+    ensures { (result ≡ lines_answer (file_asked asked.now) asked.now.horizon c (length out.old))
+        × (out.new ≡ lines_after (file_asked asked.now) asked.now.horizon c out.old) }
 {
-    let all = count_clauses(file, index, horizon);
+    let all = count_clauses(asked);
     if all <= c {
         return Err(Refusal::ClauseNumber);
     }
-    let run = put_run(file, index, horizon, all, c, out);
+    let run = put_run(asked, all, c, out);
     if run.lines == 0 {
         return Err(Refusal::Room);
     }
@@ -112,5 +104,10 @@ pub fn lines(file: &[u8], horizon: usize, c: usize, out: &mut [u8]) -> Result<Ru
     problem_verdict(file, horizon)?;
     let mut index = [0u16; INDEX_LENGTH];
     fill_index(file, &mut index);
-    lines_indexed(file, &index, horizon, c, out)
+    let task = IndexedFile {
+        file,
+        index: &index,
+    };
+    let asked = Asked { task, horizon };
+    lines_indexed(&asked, c, out)
 }

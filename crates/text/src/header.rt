@@ -6,10 +6,12 @@ ghost use Rattle.rules.specs.Calls.{problem_of};
 ghost use Rattle.task.specs.Index.{Indexed};
 ghost use Rattle.digits.specs.Over.{Wrote};
 ghost use Rattle.text.specs.Heading.{header_start, header_text, start_length, number_room, header_room};
+ghost use Rattle.task.specs.Asked.{problem_asked};
 
 use digits::{put, put_byte};
 use formula::families::count_clauses;
 use parts::single::copy;
+use task::indexed::Asked;
 use task::problem::count_variables;
 
 // The bytes of "p cnf ".
@@ -52,12 +54,12 @@ fn put_counts(out: &mut [u8], variables: usize, clauses: usize) -> usize
 }
 
 // The header of a file at a horizon.
-pub fn put_header(file: &[u8], index: &[u16], horizon: usize, out: &mut [u8]) -> usize
-    requires { Indexed file.now index.now × (horizon ≤ max_horizon) × (header_room ≤ length out.old) }
-    ensures written { Wrote out.old 0 (header_line (problem_of file.now horizon)) out.new result }
+pub fn put_header(asked: &Asked, out: &mut [u8]) -> usize
+    requires { header_room ≤ length out.old }
+    ensures written { Wrote out.old 0 (header_line (problem_asked asked.now)) out.new result }
     ensures within { result ≤ header_room }
 {
-    let variables = count_variables(file, index, horizon);
-    let clauses = count_clauses(file, index, horizon);
+    let variables = count_variables(asked);
+    let clauses = count_clauses(asked);
     put_counts(out, variables, clauses)
 }

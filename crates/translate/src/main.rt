@@ -12,7 +12,7 @@ use translator::ending::finish;
 use translator::intake::{Intake, begin, take_bytes};
 use translator::room::{ACTIONS_ROOM, GOAL_ROOM, HEAD_ROOM};
 
-// Standard input, by its number.
+// Standard input, by its number. By the kit's `io`, where a read that fails is the end: so the functions here promise what they do without an error.
 const STDIN_FILENO: i32 = 0;
 
 // Standard output, by its number.

@@ -37,7 +37,7 @@ use Rattle.bodies.specs.declared.Excess.TheVariants.{Within, Lengths, Actions}
 use Rattle.bodies.proofs.States.{before_nothing, states_begun}
 use Rattle.bodies.proofs.Verdicts.{task_verdict, verdict_within, bodies_within, verdict_lengths, verdict_actions}
 use Rattle.translator.specs.Position.{first_position, unless_over, line_due, moved_on}
-use Rattle.translator.specs.Intake.{Memory, KeptBodies, kept_in, keep_line, most_lines, one_more, Taken, taken, read_on, unless_refused, after_line, end_line, head_room, take_byte, take_all, actions_fit, counts_fit, lent_fits, has_room, Lent, Ready, take_call, begun, last_said, last_line, rules_kept, file_kept, verdict_kept, stops_early, verdict_at_end, end_verdict, translation, Ended, ended, end_with, finish_call}
+use Rattle.translator.specs.Intake.{Memory, KeptBodies, kept_in, keep_line, most_lines, one_more, Taken, taken, read_on, unless_refused, after_line, end_line, head_room, take_byte, take_all, actions_fit, counts_fit, lent_fits, has_room, Lent, Ready, take_call, begun, last_said, last_line, rules_kept, file_kept, verdict_kept, stops_early, verdict_at_end, end_verdict, translation, Ended, ended, end_with, finish_call, Translation}
 use Rattle.translator.specs.declared.position.Position.{Position}
 use Rattle.translator.specs.declared.intake.Intake.{Intake}
 use Rattle.translator.proofs.Stack.{lines_due, no_end}

@@ -1,18 +1,15 @@
 -- Laws of the walk's loops: pairs read from bytes one after the other, and the start values.
 -- Assumes nothing.
-use mathlib.Core.Path.{◌≡◌, refl, sym, ap, subst, ◌∙◌}
+use mathlib.Core.Path.{◌≡◌, refl, sym, ap, ◌∙◌}
 use mathlib.Core.Bool.{Bool, true, false, not}
 use mathlib.Core.Logic.{⊎_elim}
 use mathlib.Core.List.{List, [], ◌∷◌, ◌++◌}
-use Prim.Native.Nat.{ℕ, zero, suc, ◌+◌, ◌*◌, ◌≤◌, ◌<◌}
+use Prim.Native.Nat.{ℕ, ◌+◌, ◌*◌, ◌≤◌, ◌<◌}
 use native.Mathlib.Omega.{arith}
 use native.Mathlib.Numerals.{add-one}
-use denote.Param.Members.{Mut}
-use Rattle.std.specs.Fn.{Called}
-use Rattle.std.specs.Array.{IsFromFnResultFrom}
 use lib.Dec.{eqb}
 use lib.ListN.{length, get_or, set, get_or-eq_default}
-use lib.Seq.{ext_get_or}
+use lib.Seq.{ext_get_or, get_or-set_same, get_or-set_other}
 use Rattle.rules.specs.Counting.{for_each, every}
 use Rattle.rules.specs.Limits.{max_variables, pair_bytes, count_bytes}
 use Rattle.rules.specs.Task.{Pair, pair}
@@ -92,18 +89,6 @@ every_holds σ ps =
 
 -- ---- the start values
 
--- what a closure gives for each number that it is called for, if a call leaves it as it was
-module _ {F : Type 0} (g : Mut F (ℕ × Unit {0}) ℕ) (f : F) (h : ℕ → ℕ) (ys : List ℕ)
-    (made : (i y : ℕ) (q : F) → Called g f (i, tt) y q → (q ≡ f) × (y ≡ h i)) where
-  pub each_made : (i n : ℕ) → IsFromFnResultFrom g f ys i n → (k : ℕ) → i ≤ k → k < i + n → get_or ys k 0 ≡ h k
-  each_made i zero c k l b = absurd (omega arith)
-  each_made i (suc n) c k l b =
-      let m : (c.0 ≡ f) × (c.1 ≡ h i) = made i c.1 c.0 c.3 in
-      let rest : IsFromFnResultFrom g f ys (i + 1) n = subst (λ p. IsFromFnResultFrom g p ys (i + 1) n) m.0 c.4 in
-      ⊎_elim (λ a. each_made (i + 1) n rest k (omega arith) (omega arith))
-      (λ a. let e : k ≡ i = omega arith in ap (λ j. get_or ys j 0) e ∙ c.2.1 0 ∙ m.1 ∙ ap h (sym e))
-      (below_or i k)
-
 pub length-start_values : (start : List ℕ) → length (start_values start) ≡ max_variables
 unfolding start_values
 length-start_values start = length-table max_variables (byte start)
@@ -111,6 +96,11 @@ length-start_values start = length-table max_variables (byte start)
 -- the first x values are the start body's
 abbrev pub Filled : List ℕ → State → ℕ → Type 0
 Filled start σ x = (y : ℕ) → y < x → get_or σ y 0 ≡ byte start y
+
+pub filled_next : (start σ : State) (x v : ℕ) → x < length σ → v ≡ byte start x → Filled start σ x → Filled start (set σ x v) (x + 1)
+filled_next start σ x v l e h y b =
+    ⊎_elim (λ c. get_or-set_other σ x y v 0 (λ q. omega arith) ∙ h y c)
+    (λ c. let q : y ≡ x = omega arith in ap (λ k. get_or (set σ x v) k 0) q ∙ get_or-set_same σ x v 0 l ∙ e ∙ ap (byte start) (sym q)) (below_or y x)
 
 pub start_filled : (start σ : State) (x : ℕ) → length σ ≡ max_variables → max_variables ≤ x → Filled start σ x → σ ≡ start_values start
 unfolding start_values

@@ -8,8 +8,6 @@ ghost use Rattle.rules.specs.File.{action_in, pairs_at};
 ghost use Rattle.rules.specs.Walk.{holds, set_pairs};
 ghost use Rattle.walk.specs.Lent.{pair_at, goal_in, first_unmet, start_values};
 
-use std::array;
-
 // These three stand in reader::limits too; to share them, the walk would have to stand on the whole reader.
 const MAX_VARIABLES: usize = 96;
 
@@ -27,9 +25,11 @@ pub struct State {
 pub fn start(body: &[u8]) -> State
     ensures { result.values ≡ start_values body.now }
 {
-    State {
-        values: array::from_fn(|x| lent_bytes::byte_at(body, x)),
+    let mut values = [0; MAX_VARIABLES];
+    for x in 0..MAX_VARIABLES {
+        values[x] = lent_bytes::byte_at(body, x);
     }
+    State { values }
 }
 
 // The pair at a place holds.

@@ -17,8 +17,11 @@ returns-in-Err c = search (rules, refusal_counted)
 pub fill_index-requires : goal.fill_index-requires
 fill_index-requires c = search (rules, file_accepted)
 
-pub print_formula-requires : goal.print_formula-requires
-print_formula-requires c = search (rules, indexed, horizon_right)
+pub invariant_of-task : goal.invariant_of-task
+invariant_of-task c = search (rules, indexed)
+
+pub invariant_of-asked : goal.invariant_of-asked
+invariant_of-asked c = search (rules, horizon_right)
 
 pub returns : goal.returns
 returns c = search (rules, text_counted)

@@ -1,7 +1,7 @@
 -- `schedule_checked` meets its contract.
 -- Assumes nothing.
 use borrow.Author.Rules.{rules}
-use Rattle.task.proofs.Stated.{file_accepted, indexed}
+use Rattle.task.proofs.Stated.{file_accepted, horizon_right, indexed}
 use Rattle.schedule.proofs.BackLaws.{checked_problem, checked_room, checked_schedule}
 use Rattle.schedule.proofs.schedule_checked.Goals as goal
 
@@ -14,8 +14,11 @@ returns-then-entries-horizon c = search (rules, checked_room)
 pub fill_index-requires : goal.fill_index-requires
 fill_index-requires c = (search (rules, file_accepted), search rules)
 
-pub schedule_verdict-requires : goal.schedule_verdict-requires
-schedule_verdict-requires c = (search (rules, indexed), search rules)
+pub invariant_of-task : goal.invariant_of-task
+invariant_of-task c = search (rules, indexed)
+
+pub invariant_of-asked : goal.invariant_of-asked
+invariant_of-asked c = search (rules, horizon_right)
 
 pub returns : goal.returns
 returns c = search (rules, checked_schedule)

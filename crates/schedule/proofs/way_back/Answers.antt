@@ -13,5 +13,8 @@ returns-in_err-problem_verdict c =
 pub fill_index-requires : goal.fill_index-requires
 fill_index-requires c = (search (rules, file_accepted), search rules)
 
-pub way_back_of-requires : goal.way_back_of-requires
-way_back_of-requires c = (search (rules, indexed), search (rules, horizon_right))
+pub invariant_of-task : goal.invariant_of-task
+invariant_of-task c = search (rules, indexed)
+
+pub invariant_of-asked : goal.invariant_of-asked
+invariant_of-asked c = search (rules, horizon_right)

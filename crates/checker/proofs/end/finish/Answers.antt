@@ -14,8 +14,11 @@ returns-in_err-problem_verdict-clause-entries_after c = search (rules, early_kep
 pub fill_index-requires : goal.fill_index-requires
 fill_index-requires c = (search (rules, file_accepted), search rules)
 
-pub end_verdict-requires : goal.end_verdict-requires
-end_verdict-requires c = (search (rules, indexed), search (rules, horizon_right))
+pub invariant_of-task : goal.invariant_of-task
+invariant_of-task c = search (rules, indexed)
+
+pub invariant_of-asked : goal.invariant_of-asked
+invariant_of-asked c = search (rules, horizon_right)
 
 pub returns-in_err-end_verdict-clause-value : goal.returns-in_err-end_verdict-clause-value
 returns-in_err-end_verdict-clause-value c = search (rules, end_same)
@@ -24,7 +27,7 @@ pub returns-in_err-end_verdict-clause-entries_after : goal.returns-in_err-end_ve
 returns-in_err-end_verdict-clause-entries_after c = search (rules, late_kept)
 
 pub write_schedule-requires : goal.write_schedule-requires
-write_schedule-requires c = (search (rules, indexed), search (rules, horizon_right), search (rules, entries_room))
+write_schedule-requires c = search (rules, entries_room)
 
 pub returns-clause-value : goal.returns-clause-value
 returns-clause-value c = search (rules, end_accepted)

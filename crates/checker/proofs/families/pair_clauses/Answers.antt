@@ -25,7 +25,7 @@ pub nth_pair-pair-requires : goal.nth_pair-pair-requires
 nth_pair-pair-requires c = search (rules, pair_action)
 
 pub pair_holds-requires : goal.pair_holds-requires
-pair_holds-requires c = (search rules, search (rules, pair_step), search (rules, pair_variable), search (rules, pair_value))
+pair_holds-requires c = (search (rules, pair_step), search (rules, pair_variable), search (rules, pair_value))
 
 pub overflow_add-result-then-not-pair_holds : goal.overflow_add-result-then-not-pair_holds
 overflow_add-result-then-not-pair_holds c = search (rules, pair_fits)

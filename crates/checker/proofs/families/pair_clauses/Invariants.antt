@@ -8,4 +8,4 @@ use Rattle.checker.specs.Order.{is_unmet}
 use Rattle.checker.proofs.families.pair_clauses.Given as goal
 
 abbrev pub invariant-loop-i : goal.invariant-loop-i
-invariant-loop-i l = first (l.at + l.i) (is_unmet l.file l.horizon (lent l.given l.truth)) ≡ l.at + l.i
+invariant-loop-i l = first (l.at + l.i) (is_unmet l.asked.task.file.now l.asked.horizon (lent l.given l.truth)) ≡ l.at + l.i

@@ -11,4 +11,4 @@ use Rattle.rows.specs.Lent.{lent}
 use Rattle.checker.proofs.schedule.write_schedule.Given as goal
 
 abbrev pub invariant-loop-step : goal.invariant-loop-step
-invariant-loop-step l = (length l.entry-items ≡ length l.initial.entry-items) × (l.entry-items ≡ table l.step (entry_of (at_any_horizon l.file) (model_in (lent l.given l.truth))) ++ drop l.step l.initial.entry-items)
+invariant-loop-step l = (length l.entry-items ≡ length l.initial.entry-items) × (l.entry-items ≡ table l.step (entry_of (at_any_horizon l.asked.task.file.now) (model_in (lent l.given l.truth))) ++ drop l.step l.initial.entry-items)

@@ -6,4 +6,4 @@ use Rattle.rules.proofs.ByNumber.{clauses_before}
 use Rattle.checker.proofs.search.all_clauses.Given as goal
 
 abbrev pub invariant-loop-family : goal.invariant-loop-family
-invariant-loop-family l = (l.count ≡ clauses_before (task_of l.file) l.horizon l.family-index)
+invariant-loop-family l = (l.count ≡ clauses_before (task_of l.asked.task.file.now) l.asked.horizon l.family-index)

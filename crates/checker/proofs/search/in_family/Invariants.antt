@@ -6,4 +6,4 @@ use Rattle.checker.proofs.search.in_family.Given as goal
 use Rattle.task.specs.Families.{number_of_family}
 
 abbrev pub invariant-loop-step : goal.invariant-loop-step
-invariant-loop-step l = Reached l.file l.index (lent l.given l.truth) l.horizon (number_of_family l.family) l.step 0 l.at
+invariant-loop-step l = Reached l.asked.task.file.now l.asked.task.index.now (lent l.given l.truth) l.asked.horizon (number_of_family l.family) l.step 0 l.at

@@ -5,4 +5,4 @@ use Rattle.checker.specs.Order.{Reached}
 use Rattle.checker.proofs.search.lowest_unmet.Given as goal
 
 abbrev pub invariant-loop-family : goal.invariant-loop-family
-invariant-loop-family l = Reached l.file l.index (lent l.given l.truth) l.horizon l.family-index 0 0 l.at
+invariant-loop-family l = Reached l.asked.task.file.now l.asked.task.index.now (lent l.given l.truth) l.asked.horizon l.family-index 0 0 l.at

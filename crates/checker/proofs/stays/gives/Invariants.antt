@@ -6,4 +6,4 @@ use Rattle.checker.specs.Staying.{effect_is}
 use Rattle.checker.proofs.stays.gives.Given as goal
 
 abbrev pub invariant-loop-i : goal.invariant-loop-i
-invariant-loop-i l = first l.i (effect_is l.file l.a l.x l.v) ≡ l.i
+invariant-loop-i l = first l.i (effect_is l.task.file.now l.a l.x l.v) ≡ l.i

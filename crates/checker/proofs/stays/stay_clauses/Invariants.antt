@@ -8,4 +8,4 @@ use Rattle.checker.specs.Order.{is_unmet}
 use Rattle.checker.proofs.stays.stay_clauses.Given as goal
 
 abbrev pub invariant-loop-v : goal.invariant-loop-v
-invariant-loop-v l = (first (l.at + l.v) (is_unmet l.file l.horizon (lent l.given l.truth)) ≡ l.at + l.v)
+invariant-loop-v l = (first (l.at + l.v) (is_unmet l.asked.task.file.now l.asked.horizon (lent l.given l.truth)) ≡ l.at + l.v)

@@ -23,7 +23,7 @@ pub returns-then-count-t : goal.returns-then-count-t
 returns-then-count-t c = search (rules, support_none)
 
 pub gives-requires : goal.gives-requires
-gives-requires c = (search rules, search (rules, action_there))
+gives-requires c = search (rules, action_there)
 
 pub returns-then-gives : goal.returns-then-gives
 returns-then-gives c = search (rules, support_found)

@@ -8,7 +8,7 @@ use Rattle.checker.specs.Staying.{supports_at}
 use Rattle.checker.proofs.stays.supported.Given as goal
 
 abbrev pub invariant-loop-a : goal.invariant-loop-a
-invariant-loop-a l = (l.a ≤ l.count) × (first l.a (supports_at l.file (lent l.given l.truth) l.step l.x l.v) ≡ l.a)
+invariant-loop-a l = (l.a ≤ l.count) × (first l.a (supports_at l.task.file.now (lent l.given l.truth) l.step l.x l.v) ≡ l.a)
 
 abbrev pub decreases-loop-a : goal.decreases-loop-a
 decreases-loop-a l = l.count - l.a

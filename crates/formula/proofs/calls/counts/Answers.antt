@@ -11,11 +11,11 @@ returns-in_err-problem_verdict c = search (rules, counts_refused)
 pub fill_index-requires : goal.fill_index-requires
 fill_index-requires c = search (rules, file_accepted)
 
-pub count_variables-requires : goal.count_variables-requires
-count_variables-requires c = search (rules, indexed, horizon_right)
+pub invariant_of-task : goal.invariant_of-task
+invariant_of-task c = search (rules, indexed)
 
-pub count_clauses-requires : goal.count_clauses-requires
-count_clauses-requires c = search (rules, indexed, horizon_right)
+pub invariant_of-asked : goal.invariant_of-asked
+invariant_of-asked c = search (rules, horizon_right)
 
 pub returns : goal.returns
 returns c = search (rules, counts_found)

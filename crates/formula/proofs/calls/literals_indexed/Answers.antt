@@ -14,7 +14,7 @@ pub returns-then-out-count : goal.returns-then-out-count
 returns-then-out-count c = (search (rules, room_said), search (rules, room_as_found))
 
 pub put_clause-requires : goal.put_clause-requires
-put_clause-requires c = (search rules, search rules, record { inside = search (rules, in_range); enough = search (rules, enough_room) })
+put_clause-requires c = record { inside = search (rules, in_range); enough = search (rules, enough_room) }
 
 pub returns : goal.returns
 returns c = (search (rules, count_said), search (rules, clause_left))

@@ -9,4 +9,4 @@ use Rattle.formula.specs.Front.{written, values_to}
 use Rattle.formula.proofs.clauses.put_all_values.Given as goal
 
 abbrev pub invariant-loop-v : goal.invariant-loop-v
-invariant-loop-v l = (l.v ≤ l.count) × (l.count ≤ length l.out) × (length l.out ≡ length l.initial.out) × (l.out ≡ written l.initial.out 0 (values_to (problem (task_of l.file) l.horizon) l.s l.x l.v))
+invariant-loop-v l = (l.v ≤ l.count) × (l.count ≤ length l.out) × (length l.out ≡ length l.initial.out) × (l.out ≡ written l.initial.out 0 (values_to (problem (task_of l.asked.task.file.now) l.asked.horizon) l.s l.x l.v))

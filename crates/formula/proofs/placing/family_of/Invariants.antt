@@ -4,4 +4,4 @@ use Rattle.formula.proofs.ByPlace.{Ranked}
 use Rattle.formula.proofs.placing.family_of.Given as goal
 
 abbrev pub invariant-loop-family : goal.invariant-loop-family
-invariant-loop-family l = Ranked l.file l.horizon l.c l.family-index l.before
+invariant-loop-family l = Ranked l.asked.task.file.now l.asked.horizon l.c l.family-index l.before

@@ -11,7 +11,7 @@ pub nonzero_rem-rank : goal.nonzero_rem-rank
 nonzero_rem-rank c = search (rules, some_width)
 
 pub place_in-requires : goal.place_in-requires
-place_in-requires c = (search rules, search (rules, step_below), search (rules, rest_below))
+place_in-requires c = (search (rules, step_below), search (rules, rest_below))
 
 pub returns : goal.returns
 returns c = search (rules, place_found)

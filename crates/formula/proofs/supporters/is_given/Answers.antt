@@ -10,5 +10,5 @@ use Rattle.formula.proofs.supporters.is_given.Goals as goal
 
 pub returns : goal.returns
 returns c =
-    any_from_yields_List (gives_by (task_of c.args.file.now) c.args.a c.args.x c.args.v) _ _ c.any.result c.any.ensures.ran (YieldsList-from_range 0 c.effect_count.result c.effect_count.result refl (omega arith)) (λ i b q k. search (rules, tests))
-    ∙ given_by_any (task_of c.args.file.now) c.args.a c.args.x c.args.v c.effect_count.result (search (rules, effects_there))
+    any_from_yields_List (gives_by (task_of c.args.task.now.file.now) c.args.a c.args.x c.args.v) _ _ c.any.result c.any.ensures.ran (YieldsList-from_range 0 c.effect_count.result c.effect_count.result refl (omega arith)) (λ i b q k. search (rules, tests))
+    ∙ given_by_any (task_of c.args.task.now.file.now) c.args.a c.args.x c.args.v c.effect_count.result (search (rules, effects_there))

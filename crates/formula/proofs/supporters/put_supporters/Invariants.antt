@@ -7,4 +7,4 @@ use Rattle.formula.proofs.Supported.{SupportersPut}
 use Rattle.formula.proofs.supporters.put_supporters.Given as goal
 
 abbrev pub invariant-loop-a : goal.invariant-loop-a
-invariant-loop-a l = (l.a ≤ l.all) × SupportersPut (problem (task_of l.file) l.horizon) l.s l.x l.v l.initial.out l.out l.from l.a l.at
+invariant-loop-a l = (l.a ≤ l.all) × SupportersPut (problem (task_of l.asked.task.file.now) l.asked.horizon) l.s l.x l.v l.initial.out l.out l.from l.a l.at

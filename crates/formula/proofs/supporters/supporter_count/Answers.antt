@@ -11,7 +11,7 @@ use Rattle.formula.proofs.supporters.supporter_count.Goals as goal
 
 pub returns : goal.returns
 returns c =
-    let kept : c.count.result ≡ length (filter (λ a. is_given (task_of c.args.file.now) a c.args.x c.args.v) (range_with_len 0 c.actions.result)) =
+    let kept : c.count.result ≡ length (filter (λ a. is_given (task_of c.args.task.now.file.now) a c.args.x c.args.v) (range_with_len 0 c.actions.result)) =
     count_from_yields_List c.filter.result _ c.count.ensures.ran
-    (YieldsList-from_filter _ (λ a. is_given (task_of c.args.file.now) a c.args.x c.args.v) (YieldsList-from_range 0 c.actions.result c.actions.result c.filter.ensures.source (omega arith)) c.filter.ensures.closure (λ a b q k. search (rules, tests))) in
+    (YieldsList-from_filter _ (λ a. is_given (task_of c.args.task.now.file.now) a c.args.x c.args.v) (YieldsList-from_range 0 c.actions.result c.actions.result c.filter.ensures.source (omega arith)) c.filter.ensures.closure (λ a b q k. search (rules, tests))) in
     (search (rules, count_all, kept), search (rules, count_few, kept))

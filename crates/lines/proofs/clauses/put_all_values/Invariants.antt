@@ -4,4 +4,4 @@ use Rattle.lines.proofs.ByPlace.{ValuesPut}
 use Rattle.lines.proofs.clauses.put_all_values.Given as goal
 
 abbrev pub invariant-loop-v : goal.invariant-loop-v
-invariant-loop-v l = ValuesPut l.file l.horizon l.s l.x l.initial.out l.at l.count l.v l.out l.end
+invariant-loop-v l = ValuesPut l.asked.task.file.now l.asked.horizon l.s l.x l.initial.out l.at l.count l.v l.out l.end

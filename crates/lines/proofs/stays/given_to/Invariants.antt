@@ -8,4 +8,4 @@ use Rattle.lines.specs.Given.{sets_it}
 use Rattle.lines.proofs.stays.given_to.Given as goal
 
 abbrev pub invariant-loop-i : goal.invariant-loop-i
-invariant-loop-i l = (l.i ≤ l.count) × (first l.i (sets_it (task_of l.file) l.x l.a) ≡ l.i)
+invariant-loop-i l = (l.i ≤ l.count) × (first l.i (sets_it (task_of l.task.file.now) l.x l.a) ≡ l.i)

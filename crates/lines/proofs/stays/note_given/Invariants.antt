@@ -5,4 +5,4 @@ use Rattle.lines.proofs.Noting.{Noting}
 use Rattle.lines.proofs.stays.note_given.Given as goal
 
 abbrev pub invariant-loop-a : goal.invariant-loop-a
-invariant-loop-a l = Noting (task_of l.file) l.x l.all l.a l.given
+invariant-loop-a l = Noting (task_of l.task.file.now) l.x l.all l.a l.given

@@ -4,4 +4,4 @@ use Rattle.lines.proofs.Supported.{SupportersPut}
 use Rattle.lines.proofs.stays.put_supporters.Given as goal
 
 abbrev pub invariant-loop-a : goal.invariant-loop-a
-invariant-loop-a l = SupportersPut l.file l.horizon l.s l.x l.v l.initial.out l.at l.a l.out l.end
+invariant-loop-a l = SupportersPut l.asked.task.file.now l.asked.horizon l.s l.x l.v l.initial.out l.at l.a l.out l.end

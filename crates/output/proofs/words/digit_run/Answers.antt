@@ -1,6 +1,6 @@
 -- Assumes nothing.
 use borrow.Author.Rules.{rules}
-use Rattle.output.proofs.WordLaws.{run_none, run_stops, run_ends, run_on, digit_above, digit_fits, run_tenfold, run_next, run_grows, run_value, value_none}
+use Rattle.output.proofs.WordLaws.{run_none, run_stops, run_ends, run_on, digit_above, run_tenfold, run_next, run_grows, run_value, value_none}
 use Rattle.output.proofs.words.digit_run.Goals as goal
 
 pub loop-i-init : goal.loop-i-init
@@ -12,11 +12,8 @@ returns-then-not-is_digit c = search (rules, run_stops)
 pub overflow_mul-value : goal.overflow_mul-value
 overflow_mul-value c = search (rules, run_tenfold)
 
-pub overflow_sub-value : goal.overflow_sub-value
-overflow_sub-value c = search (rules, digit_above)
-
-pub overflow_cast-value : goal.overflow_cast-value
-overflow_cast-value c = search (rules, digit_fits)
+pub overflow_sub-b : goal.overflow_sub-b
+overflow_sub-b c = search (rules, digit_above)
 
 pub overflow_add-value : goal.overflow_add-value
 overflow_add-value c = search (rules, run_next)

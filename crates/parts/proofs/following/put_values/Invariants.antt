@@ -4,4 +4,4 @@ use Rattle.parts.proofs.InTurn.{LinesPut, stays_from}
 use Rattle.parts.proofs.following.put_values.Given as goal
 
 abbrev pub invariant-loop-lines : goal.invariant-loop-lines
-invariant-loop-lines l = LinesPut l.file l.horizon (stays_from l.s l.x l.v) l.initial.out l.at l.left l.lines l.out l.end
+invariant-loop-lines l = LinesPut l.asked.task.file.now l.asked.horizon (stays_from l.s l.x l.v) l.initial.out l.at l.left l.lines l.out l.end

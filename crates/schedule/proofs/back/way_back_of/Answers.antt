@@ -19,7 +19,7 @@ pub give_all-requires : goal.give_all-requires
 give_all-requires c = search (rules, given_fits)
 
 pub give_truth-requires : goal.give_truth-requires
-give_truth-requires c = (search rules, search rules, search (rules, entries_fit), can_be_carried _ _ _ _ c.schedule_verdict.ensures (search rules), truth_fits _ _ _ _ _ _ c.enough.ensures (search rules))
+give_truth-requires c = (search (rules, entries_fit), can_be_carried _ _ _ _ c.schedule_verdict.ensures (search rules), truth_fits _ _ _ _ _ _ c.enough.ensures (search rules))
 
 pub returns : goal.returns
 returns c = schedule_right _ _ _ _ _ (search rules) (search rules) _ c.enough.ensures (search rules) _ c.schedule_verdict.ensures _ _ (search rules) (search rules) (search rules)

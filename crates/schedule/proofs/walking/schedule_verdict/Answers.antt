@@ -4,8 +4,8 @@ use Rattle.task.proofs.Bytes.{contents_ok}
 use Rattle.schedule.proofs.WalkLaws.{came_none, came_more, over_refused, entry_known, stuck_refused, goal_is, goal_refused, goal_met}
 use Rattle.schedule.proofs.walking.schedule_verdict.Goals as goal
 
-pub returns-then-unknown-horizon : goal.returns-then-unknown-horizon
-returns-then-unknown-horizon c = search (rules, over_refused)
+pub returns-then-unknown-asked : goal.returns-then-unknown-asked
+returns-then-unknown-asked c = search (rules, over_refused)
 
 pub loop-s-init : goal.loop-s-init
 loop-s-init c = search (rules, came_none)

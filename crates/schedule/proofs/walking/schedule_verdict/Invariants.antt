@@ -5,4 +5,4 @@ use Rattle.schedule.proofs.WalkLaws.{CameTo}
 use Rattle.schedule.proofs.walking.schedule_verdict.Given as goal
 
 abbrev pub invariant-loop-s : goal.invariant-loop-s
-invariant-loop-s l = CameTo (task_of l.file) l.entries l.s l.state.values
+invariant-loop-s l = CameTo (task_of l.asked.task.file.now) l.entries l.s l.state.values

@@ -10,5 +10,5 @@ use Rattle.schedule.proofs.writing.set_true.Given as goal
 
 abbrev pub invariant-loop-s : goal.invariant-loop-s
 invariant-loop-s l = (length l.row ≡ length l.initial.row)
-    × (l.row ≡ steps_set (at_any_horizon l.file) l.entries l.s l.initial.row)
-    × (l.state.values ≡ state_at (task_of l.file) l.entries l.s)
+    × (l.row ≡ steps_set (at_any_horizon l.asked.task.file.now) l.entries l.s l.initial.row)
+    × (l.state.values ≡ state_at (task_of l.asked.task.file.now) l.entries l.s)

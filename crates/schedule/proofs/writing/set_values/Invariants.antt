@@ -7,4 +7,4 @@ use Rattle.schedule.specs.Written.{values_set}
 use Rattle.schedule.proofs.writing.set_values.Given as goal
 
 abbrev pub invariant-loop-x : goal.invariant-loop-x
-invariant-loop-x l = (length l.row ≡ length l.initial.row) × (l.row ≡ values_set (at_any_horizon l.file) l.step l.values l.x l.initial.row)
+invariant-loop-x l = (length l.row ≡ length l.initial.row) × (l.row ≡ values_set (at_any_horizon l.task.file.now) l.step l.values l.x l.initial.row)

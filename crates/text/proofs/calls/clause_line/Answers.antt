@@ -11,5 +11,8 @@ returns-in_err-problem_verdict c = (search (rules, problem_said), search (rules,
 pub fill_index-requires : goal.fill_index-requires
 fill_index-requires c = search (rules, file_accepted)
 
-pub clause_line_indexed-requires : goal.clause_line_indexed-requires
-clause_line_indexed-requires c = search (rules, indexed, horizon_right)
+pub invariant_of-task : goal.invariant_of-task
+invariant_of-task c = search (rules, indexed)
+
+pub invariant_of-asked : goal.invariant_of-asked
+invariant_of-asked c = search (rules, horizon_right)
