@@ -3,8 +3,6 @@ ghost use Rattle.std.specs.Prelude.{◌≡◌, ◌<◌, ◌≤◌};
 ghost use Rattle.rules.specs.Limits.{max_horizon};
 ghost use Rattle.rules.specs.Task.{n, d, A as actionCount};
 ghost use Rattle.rules.specs.Numbering.{value_number, action_number};
-ghost use Rattle.rules.specs.File.{task_of};
-ghost use Rattle.task.specs.Index.{Indexed};
 ghost use Rattle.task.specs.Numbers.{at_any_horizon};
 ghost use Rattle.rows.specs.Lent.{lent};
 ghost use Rattle.checker.specs.Order.{holds_at, acts_at};

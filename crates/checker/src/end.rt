@@ -1,12 +1,10 @@
 // The end of a reading: refusals 1 to 8 and 10, then 15, 18, 19 and 15 by the status, and 17; an accepted model becomes its schedule.
 ghost use Rattle.std.specs.Prelude.{◌≡◌, ◌&&◌, ◌≤◌, leb};
 ghost use Rattle.rules.specs.Answers.{judge};
-ghost use Rattle.rules.specs.Limits.{max_horizon};
 ghost use Rattle.rules.specs.Numbering.{N};
 ghost use Rattle.rules.specs.Lines.{rows_fit};
 ghost use Rattle.rules.specs.Output.{ending, model_rules};
-ghost use Rattle.rules.specs.Calls.{problem_of, end_verdict, end_entries};
-ghost use Rattle.task.specs.Index.{Indexed};
+ghost use Rattle.rules.specs.Calls.{end_verdict, end_entries};
 ghost use Rattle.checker.specs.End.{lent, end_with};
 ghost use Rattle.task.specs.Asked.{problem_asked, file_asked};
 

@@ -1,7 +1,6 @@
 // The lowest unmet clause of one item, family by family: where none is unmet, the number of the clause behind the item's last.
 ghost use Rattle.std.specs.Prelude.{◌≡◌, ◌+◌};
 ghost use Rattle.rules.specs.Counting.{first};
-ghost use Rattle.rules.specs.File.{task_of};
 ghost use Rattle.rows.specs.Lent.{lent};
 ghost use Rattle.checker.specs.Order.{is_unmet, clauses_of, Come, pairs_family, start_values, goal_pairs, some_value, two_values, preconditions_hold, effects_hold, two_actions};
 ghost use Rattle.task.specs.Asked.{task_in, file_asked};

@@ -1,9 +1,7 @@
 // The schedule that a model states.
 ghost use Rattle.std.specs.Prelude.{◌≡◌, ◌++◌, ◌≤◌, length, drop};
 ghost use Rattle.rules.specs.Limits.{max_horizon};
-ghost use Rattle.rules.specs.Calls.{problem_of};
 ghost use Rattle.rules.specs.Readings.{entry_of, schedule_of};
-ghost use Rattle.task.specs.Index.{Indexed};
 ghost use Rattle.task.specs.Numbers.{at_any_horizon};
 ghost use Rattle.rules.specs.Truth.{model_in};
 ghost use Rattle.rows.specs.Lent.{lent};

@@ -2,11 +2,7 @@
 // item.
 ghost use Rattle.std.specs.Prelude.{◌≡◌, ◌+◌, ◌*◌, ◌<◌, ◌≤◌};
 ghost use Rattle.rules.specs.Counting.{first};
-ghost use Rattle.rules.specs.Limits.{max_horizon};
-ghost use Rattle.rules.specs.File.{task_of};
 ghost use Rattle.rules.specs.Families.{C};
-ghost use Rattle.rules.specs.Calls.{problem_of};
-ghost use Rattle.task.specs.Index.{Indexed};
 ghost use Rattle.task.specs.Families.{number_of_family};
 ghost use Rattle.rows.specs.Lent.{lent};
 ghost use Rattle.checker.specs.Order.{is_unmet, steps_of, clauses_of, step_clauses, Reached, Come};

@@ -1,8 +1,6 @@
 // How many steps, items and clauses a family has.
 ghost use Rattle.std.specs.Prelude.{◌≡◌, ◌<◌, ◌≤◌};
 ghost use Rattle.rules.specs.Limits.{max_horizon};
-ghost use Rattle.rules.specs.File.{task_of};
-ghost use Rattle.task.specs.Index.{Indexed};
 ghost use Rattle.task.specs.Families.{number_of_family};
 ghost use Rattle.checker.specs.Order.{steps_of, items_of, clauses_of, step_clauses};
 ghost use Rattle.task.specs.Asked.{task_in};

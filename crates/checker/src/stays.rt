@@ -3,8 +3,6 @@ ghost use Rattle.std.specs.Prelude.{◌≡◌, ◌+◌, ◌<◌, ◌≤◌, leng
 ghost use Rattle.rules.specs.Counting.{first};
 ghost use Rattle.rules.specs.Limits.{max_horizon};
 ghost use Rattle.rules.specs.Task.{n, d, A as actionCount, action};
-ghost use Rattle.rules.specs.File.{task_of};
-ghost use Rattle.task.specs.Index.{Indexed};
 ghost use Rattle.rows.specs.Lent.{lent};
 ghost use Rattle.checker.specs.Order.{is_unmet, clauses_of, Come, values_stay};
 ghost use Rattle.checker.specs.Staying.{effect_is, gives_at, supported_at, changes_alone};

@@ -3,10 +3,8 @@
 #![tactic(auto)]
 
 ghost use Rattle.std.specs.Prelude.{◌≡◌, suc, ◌≤◌, length};
-ghost use Rattle.rules.specs.Limits.{max_horizon};
 ghost use Rattle.rules.specs.Families.{C};
 ghost use Rattle.rules.specs.Calls.{problem_of, problem_verdict};
-ghost use Rattle.task.specs.Index.{Indexed};
 ghost use Rattle.lines.specs.Written.{line_room};
 ghost use Rattle.clauses.specs.Printed.{lines_printed};
 ghost use Rattle.task.specs.Asked.{problem_asked};

@@ -1,8 +1,6 @@
 // The calls: N and C, and clause number c as literals, of any bytes at any horizon (refusals 1 to 10).
 ghost use Rattle.std.specs.Prelude.{◌≡◌, ◌≤◌, length};
-ghost use Rattle.rules.specs.Limits.{max_horizon};
 ghost use Rattle.rules.specs.Calls.{lent_after, clause_signed, clause_verdict};
-ghost use Rattle.task.specs.Index.{Indexed};
 ghost use Rattle.formula.specs.Said.{counts_answer, literals_answer};
 ghost use Rattle.task.specs.Asked.{file_asked};
 

@@ -1,9 +1,6 @@
 // The clause at a place: how many literals it has, and its literals written over the front of lent memory.
 ghost use Rattle.std.specs.Prelude.{◌≡◌, ◌≤◌, length};
-ghost use Rattle.rules.specs.Limits.{max_horizon};
 ghost use Rattle.rules.specs.Problem.{problem};
-ghost use Rattle.rules.specs.File.{task_of};
-ghost use Rattle.task.specs.Index.{Indexed};
 ghost use Rattle.formula.specs.InFamily.{InRange};
 ghost use Rattle.formula.specs.Front.{literal_count, Ready, clause_written};
 ghost use Rattle.task.specs.Asked.{task_in, file_in, file_asked};

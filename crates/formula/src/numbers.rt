@@ -1,11 +1,9 @@
 // The formula numbers of a problem, each within its N.
 ghost use Rattle.std.specs.Prelude.{◌≡◌, ◌≤◌, ◌<◌};
-ghost use Rattle.rules.specs.Limits.{max_horizon, max_n};
+ghost use Rattle.rules.specs.Limits.{max_n};
 ghost use Rattle.rules.specs.Task.{n, d, A as actionCount};
 ghost use Rattle.rules.specs.Problem.{problem};
 ghost use Rattle.rules.specs.Numbering.{value_number, action_number};
-ghost use Rattle.rules.specs.File.{task_of};
-ghost use Rattle.task.specs.Index.{Indexed};
 ghost use Rattle.task.specs.Asked.{task_in};
 
 use task::indexed::Asked;

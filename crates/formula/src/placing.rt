@@ -1,11 +1,7 @@
 // The place of clause c: its family by the counts, its step by division, then its variable or action by a search in the index.
 ghost use Rattle.std.specs.Prelude.{◌≡◌, ◌+◌, ◌≤◌, ◌<◌};
-ghost use Rattle.rules.specs.Limits.{max_horizon};
 ghost use Rattle.rules.specs.Families.{C};
-ghost use Rattle.rules.specs.File.{task_of};
-ghost use Rattle.rules.specs.Calls.{problem_of};
 ghost use Rattle.rules.proofs.ByNumber.{clauses_before};
-ghost use Rattle.task.specs.Index.{Indexed};
 ghost use Rattle.task.specs.Families.{number_of_family};
 ghost use Rattle.formula.specs.InFamily.{steps_of, width_of, count_of, IsAt, PlacedIn};
 ghost use Rattle.task.specs.Asked.{task_in, problem_asked, file_asked};

@@ -2,9 +2,8 @@
 ghost use Rattle.std.specs.Prelude.{◌≡◌, ◌+◌, ◌*◌, ◌<◌, length};
 ghost use Rattle.rules.specs.Counts.{pairs_below};
 ghost use Rattle.rules.specs.Task.{n, d, S, A as actionCount, action};
-ghost use Rattle.rules.specs.File.{task_of};
 ghost use Rattle.pairs.specs.Halving.{Passes};
-ghost use Rattle.task.specs.Index.{Indexed, value_pairs_before, preconditions_before, effects_before};
+ghost use Rattle.task.specs.Index.{value_pairs_before, preconditions_before, effects_before};
 ghost use Rattle.formula.specs.Parts.{column, Spans, InPart};
 ghost use Rattle.task.specs.Asked.{task_in};
 

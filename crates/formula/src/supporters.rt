@@ -1,11 +1,8 @@
 // The actions that give a variable a value: counted, and written as literals.
 ghost use Rattle.std.specs.Prelude.{◌≡◌, ◌+◌, ◌≤◌, ◌<◌, ◌&&◌, eqb, length};
-ghost use Rattle.rules.specs.Limits.{max_horizon};
 ghost use Rattle.rules.specs.Task.{A as actionCount, action};
 ghost use Rattle.rules.specs.Problem.{problem};
 ghost use Rattle.rules.specs.Families.{supporters};
-ghost use Rattle.rules.specs.File.{task_of};
-ghost use Rattle.task.specs.Index.{Indexed};
 ghost use Rattle.formula.specs.Front.{written, gives_by, is_given, supporter};
 ghost use Rattle.task.specs.Asked.{task_in};
 

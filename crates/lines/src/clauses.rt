@@ -1,7 +1,5 @@
 // The line of the clause at a place.
 ghost use Rattle.std.specs.Prelude.{◌+◌, ◌≤◌, length};
-ghost use Rattle.rules.specs.Limits.{max_horizon};
-ghost use Rattle.task.specs.Index.{Indexed};
 ghost use Rattle.formula.specs.declared.place.Place.{Place};
 ghost use Rattle.digits.specs.Over.{Wrote};
 ghost use Rattle.lines.specs.Written.{pair_room, line_room};

@@ -1,12 +1,10 @@
 // The lines of family 7: a value at the next step was there, or an action gave it. Which value each action gives a variable is noted once for
 // all lines of the variable.
 ghost use Rattle.std.specs.Prelude.{◌≡◌, ◌+◌, ◌≤◌, ◌<◌, length, set};
-ghost use Rattle.rules.specs.Limits.{max_horizon, max_actions};
+ghost use Rattle.rules.specs.Limits.{max_actions};
 ghost use Rattle.rules.specs.Problem.{problem};
 ghost use Rattle.rules.specs.Task.{n, d, A as actionCount, pair, action};
 ghost use Rattle.rules.specs.Families.{supporters};
-ghost use Rattle.rules.specs.File.{task_of};
-ghost use Rattle.task.specs.Index.{Indexed};
 ghost use Rattle.digits.specs.Over.{Wrote};
 ghost use Rattle.formula.specs.declared.place.Place.{Place};
 ghost use Rattle.formula.specs.Front.{supporter};

@@ -15,7 +15,6 @@ use Rattle.rules.specs.Families.{Literal, plus, minus}
 use Rattle.rules.specs.Rows.{Rows, word_bits, words_for, bit_of_variable, with_variable, store}
 use Rattle.rules.specs.Lines.{rows_fit, says_satisfiable, Progress}
 use Rattle.rules.specs.Output.{read_on, read_lines}
-use Rattle.rules.specs.Answers.{LineAnswer}
 use Rattle.rules.specs.declared.Phase.{Phase}
 use Rattle.rules.specs.declared.Phase.TheVariants.{NoStatus, ModelOpen, ModelClosed}
 use Rattle.rules.specs.declared.Reading.{Reading}

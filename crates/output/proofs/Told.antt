@@ -27,7 +27,6 @@ use Rattle.rules.specs.Lines.{pieces, rows_fit, says_satisfiable}
 use Rattle.rules.specs.Output.{without_empty_last, lines_of, read_lines, read_output, outcome, first_reading}
 use Rattle.rules.specs.Calls.{problem_of, problem_verdict}
 use Rattle.rules.specs.Programs.{printed, schedule_text, fresh_rows, after_lines, model_output}
-use Rattle.rules.specs.Answers.{LineAnswer}
 use Rattle.rules.specs.declared.Phase.TheVariants.{NoStatus, ModelClosed}
 use Rattle.rules.proofs.Bools.{and_left, and_right, and_both}
 use Rattle.rules.proofs.Counting.{every_append, every_table}

@@ -1,8 +1,6 @@
 // Lines of pairs that exclude each other, as many as are left in a step and as there is room for.
 ghost use Rattle.std.specs.Prelude.{◌≡◌, suc, ◌+◌, ◌≤◌, ◌<◌, min, length};
-ghost use Rattle.rules.specs.Limits.{max_horizon, max_actions, max_n};
-ghost use Rattle.rules.specs.File.{task_of};
-ghost use Rattle.task.specs.Index.{Indexed};
+ghost use Rattle.rules.specs.Limits.{max_actions, max_n};
 ghost use Rattle.formula.specs.declared.place.Place.{Place};
 ghost use Rattle.formula.specs.InFamily.{place_number};
 ghost use Rattle.exclusions.specs.Exclusions.{pair_room};

@@ -1,10 +1,7 @@
 // Lines of places that follow each other: the values of a variable that stay at a step, and the preconditions or effects of an action there; as
 // many as there are and as there is surely room for.
 ghost use Rattle.std.specs.Prelude.{◌≡◌, ◌+◌, ◌-◌, ◌≤◌, ◌<◌, length};
-ghost use Rattle.rules.specs.Limits.{max_horizon};
 ghost use Rattle.rules.specs.Task.{A as actionCount, action};
-ghost use Rattle.rules.specs.File.{task_of};
-ghost use Rattle.task.specs.Index.{Indexed};
 ghost use Rattle.formula.specs.declared.place.Place.{Place};
 ghost use Rattle.formula.specs.InFamily.{place_number};
 ghost use Rattle.lines.specs.AtPlace.{RoomFor, PairRoomFor};

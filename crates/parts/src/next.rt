@@ -1,9 +1,6 @@
 // The next lines of a run: as many as the writer for their family makes at a time, or one.
 ghost use Rattle.std.specs.Prelude.{◌+◌, ◌≤◌, ◌<◌, length};
-ghost use Rattle.rules.specs.Limits.{max_horizon};
 ghost use Rattle.rules.specs.Families.{C};
-ghost use Rattle.rules.specs.Calls.{problem_of};
-ghost use Rattle.task.specs.Index.{Indexed};
 ghost use Rattle.formula.specs.declared.place.Place.{Place};
 ghost use Rattle.formula.specs.InFamily.{IsAt};
 ghost use Rattle.lines.specs.Written.{pair_room};

@@ -1,10 +1,7 @@
 // One line, if it fits.
 ghost use Rattle.std.specs.Prelude.{◌+◌, ◌-◌, ◌≤◌, ◌<◌, length, take};
-ghost use Rattle.rules.specs.Limits.{max_horizon};
 ghost use Rattle.rules.specs.Families.{C, clause};
 ghost use Rattle.rules.specs.Text.{clause_line};
-ghost use Rattle.rules.specs.Calls.{problem_of};
-ghost use Rattle.task.specs.Index.{Indexed};
 ghost use Rattle.digits.specs.Over.{Wrote};
 ghost use Rattle.lines.specs.Written.{line_room};
 ghost use Rattle.parts.specs.Runs.{PutPart};

@@ -1,13 +1,10 @@
 // The way back on an accepted file: judged first, then written.
 ghost use Rattle.std.specs.Prelude.{◌≡◌, true, ◌≤◌, length, replicate};
-ghost use Rattle.rules.specs.Limits.{max_horizon};
 ghost use Rattle.rules.specs.Numbering.{N};
-ghost use Rattle.rules.specs.File.{task_of};
 ghost use Rattle.rules.specs.Rows.{words_for, packed, over_row};
 ghost use Rattle.rules.specs.Walk.{CarriedOut};
 ghost use Rattle.rules.specs.Readings.{assignment_of};
-ghost use Rattle.rules.specs.Calls.{problem_of, back_verdict, back_rows};
-ghost use Rattle.task.specs.Index.{Indexed};
+ghost use Rattle.rules.specs.Calls.{back_verdict, back_rows};
 ghost use Rattle.schedule.specs.Written.{lent, fits};
 ghost use Rattle.task.specs.Asked.{task_in, problem_asked, file_asked};
 

@@ -6,7 +6,6 @@ ghost use Rattle.rules.specs.Answers.{judge};
 ghost use Rattle.rules.specs.Task.{A as actionCount, action};
 ghost use Rattle.rules.specs.File.{action_in, task_of, file_verdict};
 ghost use Rattle.rules.specs.Walk.{entry, start_state, entry_applies, after_entry, schedule_rules};
-ghost use Rattle.task.specs.Index.{Indexed};
 ghost use Rattle.schedule.specs.Over.{over};
 ghost use Rattle.task.specs.Asked.{task_in};
 

@@ -3,10 +3,8 @@ ghost use Rattle.std.specs.Prelude.{◌≡◌, true, ◌<◌, ◌≤◌, length}
 ghost use Rattle.rules.specs.Limits.{max_horizon};
 ghost use Rattle.rules.specs.Task.{n, d, A as actionCount};
 ghost use Rattle.rules.specs.Numbering.{value_number};
-ghost use Rattle.rules.specs.File.{task_of};
 ghost use Rattle.rules.specs.Rows.{with_variable};
 ghost use Rattle.rules.specs.Walk.{CarriedOut};
-ghost use Rattle.task.specs.Index.{Indexed};
 ghost use Rattle.task.specs.Numbers.{at_any_horizon};
 ghost use Rattle.schedule.specs.Written.{all_set, Inside, values_set, entry_set, step_set, all_true_set};
 ghost use Rattle.task.specs.Asked.{task_in, file_in, file_asked};

@@ -3,7 +3,7 @@ ghost use Rattle.std.specs.Prelude.{◌≡◌, ◌+◌, ◌*◌, ◌<◌, length
 ghost use Rattle.rules.specs.Limits.{byte_values, pair_bytes};
 ghost use Rattle.rules.specs.Task.{n, d, A as actionCount, start_value, pair, action};
 ghost use Rattle.rules.specs.File.{byte, task_of, file_verdict};
-ghost use Rattle.task.specs.Index.{action_place, Indexed};
+ghost use Rattle.task.specs.Index.{action_place};
 ghost use Rattle.task.specs.Asked.{task_in, file_in};
 
 use crate::index::action_place;

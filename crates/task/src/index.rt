@@ -3,8 +3,7 @@ ghost use Rattle.std.specs.Prelude.{◌≡◌, ◌≤◌, ◌<◌, length, get_o
 ghost use Rattle.rules.specs.Limits.{max_variables, max_actions};
 ghost use Rattle.rules.specs.Task.{off, S, A as actionCount};
 ghost use Rattle.rules.specs.Numbering.{stride};
-ghost use Rattle.rules.specs.File.{task_of};
-ghost use Rattle.task.specs.Index.{Indexed, action_place, value_pairs_before, preconditions_before, effects_before};
+ghost use Rattle.task.specs.Index.{action_place, value_pairs_before, preconditions_before, effects_before};
 ghost use Rattle.task.specs.Asked.{task_in, file_in};
 
 use crate::indexed::IndexedFile;

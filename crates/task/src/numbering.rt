@@ -4,8 +4,6 @@ ghost use Rattle.std.specs.Prelude.{◌≡◌, ◌+◌, ◌*◌, ◌<◌, ◌≤
 ghost use Rattle.rules.specs.Limits.{max_values, max_actions, max_horizon};
 ghost use Rattle.rules.specs.Task.{n, d, A as actionCount};
 ghost use Rattle.rules.specs.Numbering.{value_number, action_number};
-ghost use Rattle.rules.specs.File.{task_of};
-ghost use Rattle.task.specs.Index.{Indexed};
 ghost use Rattle.task.specs.Numbers.{at_any_horizon, number_read};
 ghost use Rattle.task.specs.Asked.{task_in, file_in};
 

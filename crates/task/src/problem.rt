@@ -1,9 +1,7 @@
 // The problem that a file states at a horizon: refusals 1 to 8, and N.
 ghost use Rattle.std.specs.Prelude.{◌≡◌, ◌≤◌};
-ghost use Rattle.rules.specs.Limits.{max_horizon};
 ghost use Rattle.rules.specs.Numbering.{N};
-ghost use Rattle.rules.specs.Calls.{problem_of, problem_verdict};
-ghost use Rattle.task.specs.Index.{Indexed};
+ghost use Rattle.rules.specs.Calls.{problem_verdict};
 ghost use Rattle.task.specs.Asked.{problem_asked};
 
 use crate::index::{step_width, values};

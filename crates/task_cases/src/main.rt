@@ -6,8 +6,7 @@
 
 ghost use Rattle.std.specs.Prelude.{◌≡◌, ◌+◌, ◌<◌, ◌≤◌, length, Ok};
 ghost use Rattle.rules.specs.Task.{n, A as actionCount};
-ghost use Rattle.rules.specs.File.{task_of, file_verdict};
-ghost use Rattle.task.specs.Index.{Indexed};
+ghost use Rattle.rules.specs.File.{file_verdict};
 ghost use Rattle.task.specs.Asked.{task_in};
 
 use rules::Refusal;

@@ -19,7 +19,7 @@ use Rattle.rules.proofs.Counting.{for_each-ext, for_each-joined}
 use Rattle.lines.specs.Written.{line_room}
 use Rattle.parts.specs.Runs.{run}
 use Rattle.parts.proofs.OneLine.{no_line}
-use Rattle.text.specs.Said.{answered, header_answer, clause_line_answer, lines_answer, TextAnswer, wrote}
+use Rattle.text.specs.Said.{answered, header_answer, clause_line_answer, lines_answer, TextAnswer}
 use Rattle.text.proofs.Longest.{run_taken, some_fit, lines_most}
 use Rattle.text.proofs.Running.{run_append}
 use Rattle.text.proofs.Answered.{header_fits, line_fits}

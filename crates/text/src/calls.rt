@@ -1,8 +1,6 @@
 // The calls, for any bytes at any horizon. A refusal leaves the lent room as found.
 ghost use Rattle.std.specs.Prelude.{◌≡◌, ◌≤◌, length};
-ghost use Rattle.rules.specs.Limits.{max_horizon};
 ghost use Rattle.rules.specs.Calls.{header_after, clause_line_after, lines_after};
-ghost use Rattle.task.specs.Index.{Indexed};
 ghost use Rattle.text.specs.Said.{header_answer, clause_line_answer, lines_answer};
 ghost use Rattle.task.specs.Asked.{file_asked};
 

@@ -1,9 +1,7 @@
 // The header line.
 ghost use Rattle.std.specs.Prelude.{◌≡◌, [], ◌∷◌, ◌++◌, ◌+◌, ◌≤◌, length};
-ghost use Rattle.rules.specs.Limits.{max_horizon, max_n, max_c};
+ghost use Rattle.rules.specs.Limits.{max_n, max_c};
 ghost use Rattle.rules.specs.Text.{decimal, header_line};
-ghost use Rattle.rules.specs.Calls.{problem_of};
-ghost use Rattle.task.specs.Index.{Indexed};
 ghost use Rattle.digits.specs.Over.{Wrote};
 ghost use Rattle.text.specs.Heading.{header_start, header_text, start_length, number_room, header_room};
 ghost use Rattle.task.specs.Asked.{problem_asked};

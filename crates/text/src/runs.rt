@@ -1,10 +1,8 @@
 // Runs of whole lines.
 ghost use Rattle.std.specs.Prelude.{◌≡◌, ◌≤◌, length};
-ghost use Rattle.rules.specs.Limits.{max_horizon};
 ghost use Rattle.rules.specs.Counting.{joined};
 ghost use Rattle.rules.specs.Families.{C};
-ghost use Rattle.rules.specs.Calls.{problem_of, lines_from};
-ghost use Rattle.task.specs.Index.{Indexed};
+ghost use Rattle.rules.specs.Calls.{lines_from};
 ghost use Rattle.digits.specs.Over.{over};
 ghost use Rattle.task.specs.Asked.{problem_asked, file_asked};
 
