@@ -22,13 +22,11 @@ fn sizes(file: &[u8]) -> Reply
 {
     let mut index = [0u16; INDEX_LENGTH];
     task::filling::fill_index(file, &mut index);
-    replies::counted(
-        task::asked::variables(file),
-        task::index::actions(&IndexedFile {
-            file,
-            index: &index,
-        }),
-    )
+    let task = IndexedFile {
+        file,
+        index: &index,
+    };
+    replies::counted(task::asked::variables(file), task::index::actions(&task))
 }
 
 pub fn judge(file: &[u8]) -> Reply {

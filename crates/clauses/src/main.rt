@@ -19,11 +19,11 @@ use task::indexed::{Asked, IndexedFile};
 use task::problem::problem_verdict;
 use text::calls::{header_indexed, lines_indexed};
 
-// Standard input, by its number. By the kit's `io`, as a write there gives no error: so `print_lines` promises how many lines it made whatever becomes
-// of them.
+// Standard input, by its number. By the kit's `io`, where a read that fails is the end.
 const STDIN_FILENO: i32 = 0;
 
-// Standard output, by its number.
+// Standard output, by its number. By the kit's `io`, as a write there gives no error: so `print_lines` promises how many lines it made whatever
+// becomes of them.
 const STDOUT_FILENO: i32 = 1;
 
 // The horizon byte, the longest file, and one byte more, by which a file that is too long shows.

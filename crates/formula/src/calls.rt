@@ -38,7 +38,7 @@ pub fn counts(file: &[u8], horizon: usize) -> Result<FormulaCounts, Refusal>
     })
 }
 
-// The same as `literals`, how many literals were written, of an accepted file with its index.
+// The same as `literals`, of what is judged and indexed already: how many literals were written.
 pub fn literals_indexed(asked: &Asked, c: usize, out: &mut [i32]) -> Result<usize, Refusal>
     ensures { (result ≡ literals_answer (file_asked asked.now) asked.now.horizon c (length out.old))
         × (out.new ≡ lent_after (clause_verdict (file_asked asked.now) asked.now.horizon c (length out.old)) (clause_signed (file_asked asked.now) asked.now.horizon c) out.old) }

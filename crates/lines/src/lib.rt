@@ -1,4 +1,4 @@
-// The line of the clause at a place, in lent room that surely suffices. Each function here is for an accepted file with its index.
+// The line of the clause at a place, in lent room that surely suffices.
 #![tactic(auto)]
 
 pub mod clauses;

@@ -1,6 +1,6 @@
 // The lines of family 7: a value at the next step was there, or an action gave it. Which value each action gives a variable is noted once for
 // all lines of the variable.
-ghost use Rattle.std.specs.Prelude.{◌≡◌, ◌+◌, ◌≤◌, ◌<◌, length, set};
+ghost use Rattle.std.specs.Prelude.{◌≡◌, ◌+◌, ◌≤◌, ◌<◌, length};
 ghost use Rattle.rules.specs.Limits.{max_actions};
 ghost use Rattle.rules.specs.Problem.{problem};
 ghost use Rattle.rules.specs.Task.{n, d, A as actionCount, pair, action};

@@ -1,4 +1,4 @@
-// Parts of a run of lines in lent room. Each function here is for an accepted file with its index.
+// Parts of a run of lines in lent room.
 #![tactic(auto)]
 
 pub mod excluding;

@@ -1,5 +1,4 @@
-// The walk of a schedule through an accepted file's task: every move goes through the walk's `apply`. Each function here is for an accepted
-// file with its index only.
+// The walk of a schedule through an accepted file's task: every move goes through the walk's `apply`.
 ghost use Rattle.std.specs.Prelude.{◌≡◌, ◌<◌, ◌≤◌, length, Ok};
 ghost use Rattle.rules.specs.Counting.{first};
 ghost use Rattle.rules.specs.Answers.{judge};

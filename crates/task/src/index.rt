@@ -1,4 +1,4 @@
-// The index of an accepted file: where its numbers stand, and what they say. Each function here is for an accepted file with its index only.
+// The index of an accepted file: where its numbers stand, and what they say.
 ghost use Rattle.std.specs.Prelude.{◌≡◌, ◌≤◌, ◌<◌, length, get_or};
 ghost use Rattle.rules.specs.Limits.{max_variables, max_actions};
 ghost use Rattle.rules.specs.Task.{off, S, A as actionCount};

@@ -22,7 +22,7 @@ pub fn problem_verdict(file: &[u8], horizon: usize) -> Result<(), Refusal>
     Ok(())
 }
 
-// N, of an accepted file with its index.
+// N.
 pub fn count_variables(asked: &Asked) -> usize
     ensures { result ≡ N (problem_asked asked.now) }
 {

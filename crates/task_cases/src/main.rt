@@ -9,7 +9,6 @@ ghost use Rattle.rules.specs.Task.{n, A as actionCount};
 ghost use Rattle.rules.specs.File.{file_verdict};
 ghost use Rattle.task.specs.Asked.{task_in};
 
-use rules::Refusal;
 use showing::print_verdict;
 use std::io::Result;
 use task::index::INDEX_LENGTH;

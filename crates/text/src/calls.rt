@@ -14,7 +14,7 @@ use task::index::INDEX_LENGTH;
 use task::indexed::{Asked, IndexedFile};
 use task::problem::problem_verdict;
 
-// The same as `header`, of an accepted file with its index.
+// The same as `header`, of what is judged and indexed already.
 pub fn header_indexed(asked: &Asked, out: &mut [u8]) -> Result<Run, Refusal>
     ensures { (result ≡ header_answer (file_asked asked.now) asked.now.horizon (length out.old))
         × (out.new ≡ header_after (file_asked asked.now) asked.now.horizon out.old) }
@@ -44,7 +44,7 @@ pub fn header(file: &[u8], horizon: usize, out: &mut [u8]) -> Result<Run, Refusa
     header_indexed(&asked, out)
 }
 
-// The same as `clause_line`, of an accepted file with its index.
+// The same as `clause_line`, of what is judged and indexed already.
 pub fn clause_line_indexed(asked: &Asked, c: usize, out: &mut [u8]) -> Result<Run, Refusal>
     ensures { (result ≡ clause_line_answer (file_asked asked.now) asked.now.horizon c (length out.old))
         × (out.new ≡ clause_line_after (file_asked asked.now) asked.now.horizon c out.old) }
@@ -78,7 +78,7 @@ pub fn clause_line(file: &[u8], horizon: usize, c: usize, out: &mut [u8]) -> Res
     clause_line_indexed(&asked, c, out)
 }
 
-// The same as `lines`, of an accepted file with its index.
+// The same as `lines`, of what is judged and indexed already.
 pub fn lines_indexed(asked: &Asked, c: usize, out: &mut [u8]) -> Result<Run, Refusal>
     ensures { (result ≡ lines_answer (file_asked asked.now) asked.now.horizon c (length out.old))
         × (out.new ≡ lines_after (file_asked asked.now) asked.now.horizon c out.old) }
