@@ -4,7 +4,7 @@ use mathlib.Core.Path.{◌≡◌, refl, sym, ap, ◌∙◌}
 use mathlib.Core.Bool.{Bool}
 use mathlib.Core.List.{List}
 use lib.ListN.{get_or}
-use Prim.Native.Nat.{ℕ, zero, suc, ◌+◌, ◌*◌, ◌≤◌, ◌<◌}
+use Prim.Native.Nat.{ℕ, suc, ◌+◌, ◌*◌, ◌≤◌, ◌<◌}
 use native.Mathlib.Omega.{arith}
 use native.Mathlib.Nat.{suc-mul, zero-mul}
 use mir.Syntax.{w64}
@@ -20,32 +20,12 @@ use Rattle.rules.proofs.Counting.{first_le, first_before, first_at, first_is}
 use Rattle.rules.proofs.Files.{accepted_well_formed}
 use Rattle.rules.proofs.ByNumber.{clauses_before}
 use Rattle.task.specs.Index.{Indexed}
-use Rattle.checker.specs.Order.{is_unmet, steps_of, items_of, clauses_of, step_clauses, first_clause, Reached, Come, family_count, start_values, goal_pairs, two_actions}
+use Rattle.checker.specs.Order.{is_unmet, steps_of, items_of, clauses_of, step_clauses, first_clause, Reached, Come, start_values, goal_pairs, two_actions}
 use Rattle.task.specs.declared.family.Family.{Family}
-use Rattle.task.specs.declared.family.Family.TheVariants.{StartValues, GoalPairs, AllValues, TwoValues, Preconditions, Effects, ValuesStay, TwoActions}
+use Rattle.task.specs.declared.family.Family.TheVariants.{StartValues, GoalPairs, TwoActions}
 use Rattle.checker.proofs.Widths.{next_family, all_families, family_end, step_few, item_few, family_few, step_within, item_within}
-use Rattle.task.specs.Families.{number_of_family, families_in_order}
-
-pub family_below : (g : Family) → number_of_family g < family_count
-family_below StartValues = omega arith
-family_below GoalPairs = omega arith
-family_below AllValues = omega arith
-family_below TwoValues = omega arith
-family_below Preconditions = omega arith
-family_below Effects = omega arith
-family_below ValuesStay = omega arith
-family_below TwoActions = omega arith
-
-family_at : (i : ℕ) (g : Family) → i < family_count → number_of_family (get_or families_in_order i g) ≡ i
-family_at zero g h = refl
-family_at (suc zero) g h = refl
-family_at (suc (suc zero)) g h = refl
-family_at (suc (suc (suc zero))) g h = refl
-family_at (suc (suc (suc (suc zero)))) g h = refl
-family_at (suc (suc (suc (suc (suc zero))))) g h = refl
-family_at (suc (suc (suc (suc (suc (suc zero)))))) g h = refl
-family_at (suc (suc (suc (suc (suc (suc (suc zero))))))) g h = refl
-family_at (suc (suc (suc (suc (suc (suc (suc (suc i)))))))) g h = absurd (omega arith)
+use Rattle.task.specs.Families.{family_count, number_of_family, families_in_order}
+use Rattle.task.proofs.Families.{family_at}
 
 -- so many clauses it has
 pub width_at : (file : List ℕ) (k f : ℕ) (g : Family) (w : ℕ) → f < family_count

@@ -21,10 +21,10 @@ use Rattle.rules.proofs.Bounds.{C-bound}
 use Rattle.rules.proofs.Files.{accepted_well_formed}
 use Rattle.rules.proofs.ByNumber.{clauses_before}
 use Rattle.task.specs.Index.{Indexed, value_pairs_before, preconditions_before, effects_before}
-use Rattle.checker.specs.Order.{steps_of, items_of, clauses_of, step_clauses, first_clause, family_count}
+use Rattle.checker.specs.Order.{steps_of, items_of, clauses_of, step_clauses, first_clause}
 use Rattle.task.specs.declared.family.Family.{Family}
 use Rattle.task.specs.declared.family.Family.TheVariants.{StartValues, GoalPairs, AllValues, TwoValues, Preconditions, Effects, ValuesStay, TwoActions}
-use Rattle.task.specs.Families.{number_of_family}
+use Rattle.task.specs.Families.{family_count, number_of_family}
 
 -- ---- steps
 

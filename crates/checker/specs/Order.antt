@@ -20,6 +20,7 @@ use Rattle.task.specs.Numbers.{at_any_horizon}
 use Rattle.rows.specs.Bits.{counts_true}
 use Rattle.checker.specs.declared.action_pairs.ActionPairs.{ActionPairs}
 use Rattle.checker.specs.declared.action_pairs.ActionPairs.TheVariants.{Preconditions, Effects}
+use Rattle.task.specs.Families.{family_count}
 
 -- ---- the bits
 
@@ -40,9 +41,6 @@ unfoldable pub is_unmet : (file : List ℕ) (k : ℕ) → Rows → ℕ → Bool
 is_unmet file k rows c = not (clause_true (model_in rows) (clause (problem_of file k) c))
 
 -- ---- the families, from 0
-
-abbrev pub family_count : ℕ
-family_count = 8
 
 abbrev pub start_values : ℕ
 start_values = 0

@@ -41,7 +41,7 @@ use Rattle.checker.proofs.end.finish.Kinds as finish-kinds
 use Rattle.checker.proofs.end.finish.Reads as finish
 use Rattle.schedule.proofs.way_back.Kinds as back-kinds
 use Rattle.schedule.proofs.way_back.Reads as way_back
-use Rattle.formula.specs.Said.{CountsAnswer, found, LiteralsAnswer}
+use Rattle.formula.specs.Said.{CountsAnswer, LiteralsAnswer}
 
 -- ---- the calls
 
@@ -111,7 +111,8 @@ module _ (file : List ℕ) (k : ℕ) where
         → table (C P) (λ c. words_of (answer c) (after c))
         ≡ map (map signed) (joined (family1 P ∷ family2 P ∷ family3 P ∷ family4 P ∷ family5 P ∷ family6 P ∷ family7 P ∷ family8 P ∷ []))
     pub counted : (answer : CountsAnswer) → Counted file k answer
-        → answer ≡ found (k * (S (task_of file) + A (task_of file)) + S (task_of file)) (sum (count_table (task_of file) k))
+        → answer
+        ≡ Ok (record { variables = k * (S (task_of file) + A (task_of file)) + S (task_of file); clauses = sum (count_table (task_of file) k) })
     pub model : (rows : Rows) (entries after : List ℕ) (verdict : Verdict) → Ended file k ModelClosed rows entries verdict after
         → Enough rows entries → (verdict ≡ Ok tt) ↔ (satisfies (model_in rows) (formula P) ≡ true)
     pub refused : (rows : Rows) (entries after : List ℕ) (verdict : Verdict) (c : ℕ) → Ended file k ModelClosed rows entries verdict after

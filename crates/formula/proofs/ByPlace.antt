@@ -22,11 +22,12 @@ use Rattle.task.specs.Index.{Indexed, value_pairs_before, preconditions_before, 
 use Rattle.formula.specs.declared.place.Place.{Place}
 use Rattle.formula.specs.declared.place.Place.TheVariants.{Start, Goal, AllValues, TwoValues, Precondition, Effect, Stays, TwoActions}
 use Rattle.formula.specs.Parts.{InPart}
-use Rattle.formula.specs.InFamily.{family_count, steps_of, width_of, count_of, IsAt, number_in, PlacedIn}
+use Rattle.formula.specs.InFamily.{steps_of, width_of, count_of, IsAt, number_in, PlacedIn}
 use Rattle.task.specs.declared.family.Family.{Family}
 use Rattle.task.specs.declared.family.Family.TheVariants.{StartValues, GoalPairs, AllValues as AllValuesFamily}
-use Rattle.task.specs.Families.{number_of_family, families_in_order}
-use Rattle.formula.proofs.Counted.{before_none, before_next, before_all, count_parts, family_number}
+use Rattle.task.specs.Families.{family_count, number_of_family, families_in_order}
+use Rattle.formula.proofs.Counted.{before_none, before_next, before_all, count_parts}
+use Rattle.task.proofs.Families.{family_at}
 
 -- ---- the family
 
@@ -46,7 +47,7 @@ module _ (file : List ℕ) (k c : ℕ) where
     pub ranked_next : count ≤ before → Ranked (i + 1) (before - count)
     ranked_next l =
         record {
-          is = rw (add-one i) (omega (arith, before_next T k i, r.is, e, ap (count_of T k) (family_number i d h)));
+          is = rw (add-one i) (omega (arith, before_next T k i, r.is, e, ap (count_of T k) (family_at i d h)));
           some = r.some;
         }
 

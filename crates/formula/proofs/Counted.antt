@@ -2,7 +2,7 @@
 -- Assumes nothing.
 use mathlib.Core.Path.{◌≡◌, refl, sym, ap, ◌∙◌}
 use mathlib.Core.List.{List}
-use Prim.Native.Nat.{ℕ, zero, suc, ◌+◌, ◌*◌, ◌≤◌, ◌<◌}
+use Prim.Native.Nat.{ℕ, suc, ◌+◌, ◌*◌, ◌≤◌, ◌<◌}
 use native.Mathlib.Omega.{arith}
 use native.Mathlib.Numerals.{add-one}
 use mir.Syntax.{w64}
@@ -24,8 +24,9 @@ use Rattle.rules.proofs.Files.{accepted_well_formed}
 use Rattle.task.specs.Index.{Indexed, value_pairs_before, preconditions_before, effects_before}
 use Rattle.task.specs.declared.family.Family.{Family}
 use Rattle.task.specs.declared.family.Family.TheVariants.{StartValues, GoalPairs, AllValues, TwoValues, Preconditions, Effects, ValuesStay, TwoActions}
-use Rattle.task.specs.Families.{number_of_family, families_in_order}
-use Rattle.formula.specs.InFamily.{family_count, steps_of, width_of, count_of}
+use Rattle.task.specs.Families.{family_count, number_of_family, families_in_order}
+use Rattle.formula.specs.InFamily.{steps_of, width_of, count_of}
+use Rattle.task.proofs.Families.{family_below, family_at}
 
 module _ (file index : List ℕ) (ix : Indexed file index) (m : ℕ) where
   pub variables_few : m ≡ n (task_of file) → m ≤ max_variables
@@ -49,28 +50,6 @@ count_parts T k TwoActions = refl
 pub count_made : (T : Task) (k : ℕ) (family : Family) (s w : ℕ) → s ≡ steps_of k (number_of_family family) → w ≡ width_of T (number_of_family family)
     → s * w ≡ count_of T k (number_of_family family)
 count_made T k family s w es ew = rw (es, ew) (count_parts T k family)
-
-pub family_below : (family : Family) → number_of_family family < family_count
-family_below StartValues = omega arith
-family_below GoalPairs = omega arith
-family_below AllValues = omega arith
-family_below TwoValues = omega arith
-family_below Preconditions = omega arith
-family_below Effects = omega arith
-family_below ValuesStay = omega arith
-family_below TwoActions = omega arith
-
--- family i of all families in order has the number i
-pub family_number : (i : ℕ) (d : Family) → i < family_count → number_of_family (get_or families_in_order i d) ≡ i
-family_number zero d h = refl
-family_number (suc zero) d h = refl
-family_number (suc (suc zero)) d h = refl
-family_number (suc (suc (suc zero))) d h = refl
-family_number (suc (suc (suc (suc zero)))) d h = refl
-family_number (suc (suc (suc (suc (suc zero))))) d h = refl
-family_number (suc (suc (suc (suc (suc (suc zero)))))) d h = refl
-family_number (suc (suc (suc (suc (suc (suc (suc zero))))))) d h = refl
-family_number (suc (suc (suc (suc (suc (suc (suc (suc i)))))))) d h = absurd (omega arith)
 
 -- ---- the running sum of the counts
 
@@ -96,7 +75,7 @@ module _ (file : List ℕ) (k : ℕ) where
 
   pub sum_next : (i sum count : ℕ) (d : Family) → i < family_count → sum ≡ clauses_before T k i → count ≡ count_of T k (number_of_family (get_or families_in_order i d))
       → sum + count ≡ clauses_before T k (i + 1)
-  sum_next i sum count d h e ec = rw (add-one i) (omega (arith, e, before_next T k i, ec, ap (count_of T k) (family_number i d h)))
+  sum_next i sum count d h e ec = rw (add-one i) (omega (arith, e, before_next T k i, ec, ap (count_of T k) (family_at i d h)))
 
   pub sum_all : (i sum : ℕ) → i ≤ family_count → family_count ≤ i → sum ≡ clauses_before T k i → sum ≡ C (problem_of file k)
   sum_all i sum h l e = let all : i ≡ family_count = omega arith in e ∙ ap (clauses_before T k) all ∙ before_all
@@ -115,4 +94,4 @@ module _ (file : List ℕ) (k : ℕ) where
 
     pub sum_fits : (i sum count : ℕ) (d : Family) → i < family_count → sum ≡ clauses_before T k i → count ≡ count_of T k (number_of_family (get_or families_in_order i d))
         → Fits w64 (sum + count)
-    sum_fits i sum count d h e ec = record { fits = omega (arith, e, ec, ap (count_of T k) (family_number i d h), within i h, clauses_few) }
+    sum_fits i sum count d h e ec = record { fits = omega (arith, e, ec, ap (count_of T k) (family_at i d h), within i h, clauses_few) }

@@ -13,9 +13,6 @@ use Rattle.formula.specs.declared.place.Place.{Place}
 use Rattle.formula.specs.declared.place.Place.TheVariants.{Start, Goal, AllValues, TwoValues, Precondition, Effect, Stays, TwoActions}
 use Rattle.formula.specs.Placed.{clause_at}
 
-abbrev pub family_count : ℕ
-family_count = 8
-
 unfoldable pub steps_of : ℕ → ℕ → ℕ
 steps_of k f = get_or (1 ∷ 1 ∷ suc k ∷ suc k ∷ k ∷ k ∷ k ∷ k ∷ []) f 0
 

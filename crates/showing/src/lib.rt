@@ -1,6 +1,9 @@
 // What several of the programs that run stored cases show alike.
 #![tactic(auto)]
 
+ghost use Rattle.std.specs.Prelude.{◌≡◌};
+ghost use Rattle.showing.specs.Names.{name_of};
+
 use refusals::{detail_of, number_of};
 use rules::{Phase, Refusal};
 use std::io;
@@ -19,7 +22,10 @@ pub fn print_verdict(rt: &impl Print, verdict: Result<(), Refusal>) -> io::Resul
 }
 
 // How far a reading of solver output is.
-pub fn name_of(phase: Phase) -> &'static str {
+#[tactic(auto, unfolding(rules::specs::Text::ascii))]
+pub fn name_of(phase: Phase) -> &'static str
+    ensures { result.now ≡ name_of phase }
+{
     match phase {
         Phase::NoStatus => "no-status",
         Phase::ModelOpen => "open",

@@ -4,6 +4,9 @@ use Rattle.std.specs.Prelude.{ℕ, List, [], ◌∷◌}
 use Rattle.task.specs.declared.family.Family.{Family}
 use Rattle.task.specs.declared.family.Family.TheVariants.{StartValues, GoalPairs, AllValues, TwoValues, Preconditions, Effects, ValuesStay, TwoActions}
 
+abbrev pub family_count : ℕ
+family_count = 8
+
 abbrev pub number_of_family : Family → ℕ
 number_of_family StartValues = 0
 number_of_family GoalPairs = 1

@@ -1,6 +1,7 @@
 -- `family_clauses` meets its contract.
 -- Assumes nothing.
-use Rattle.checker.proofs.Moving.{family_below, product_few, product_is}
+use Rattle.task.proofs.Families.{family_below}
+use Rattle.checker.proofs.Moving.{product_few, product_is}
 use borrow.Author.Rules.{rules}
 use Rattle.checker.proofs.search.family_clauses.Goals as goal
 

@@ -1,5 +1,6 @@
 -- Assumes nothing.
-use Rattle.checker.proofs.Moving.{family_below, step_fits, step_found, step_passed, step_there, steps_done}
+use Rattle.task.proofs.Families.{family_below}
+use Rattle.checker.proofs.Moving.{step_fits, step_found, step_passed, step_there, steps_done}
 use borrow.Author.Rules.{rules}
 use Rattle.checker.proofs.search.in_family.Goals as goal
 

@@ -1,5 +1,6 @@
 -- Assumes nothing.
-use Rattle.checker.proofs.Moving.{family_below, come_here, item_fits, item_found, item_passed, item_there, items_done}
+use Rattle.task.proofs.Families.{family_below}
+use Rattle.checker.proofs.Moving.{come_here, item_fits, item_found, item_passed, item_there, items_done}
 use borrow.Author.Rules.{rules}
 use Rattle.checker.proofs.search.in_step.Goals as goal
 
