@@ -14,6 +14,7 @@ mod texts;
 use kinds::Kind;
 use replies::Reply;
 use rules::Reading;
+use showing::streams::{Input, Output};
 use std::io::Read;
 
 const FILE_BYTES: usize = 32768;
@@ -163,8 +164,8 @@ fn turn(
     stream::write_number(output, 0).ok_or(None)
 }
 
-fn main(rt: HostRuntime) {
-    let mut input = rt.stdin();
+fn main() {
+    let mut input = Input;
     let mut file = [0u8; FILE_BYTES];
     let mut text = [0u8; TEXT_BYTES];
     let mut room = [0u8; ROOM_BYTES];
@@ -177,7 +178,7 @@ fn main(rt: HostRuntime) {
     for _ in 0..u64::MAX {
         let Err(stop) = turn(
             &mut input,
-            &rt,
+            &Output::Standard,
             &mut file,
             &mut text,
             &mut room,
@@ -190,7 +191,7 @@ fn main(rt: HostRuntime) {
             continue;
         };
         if let Some(complaint) = stop {
-            let _ = eprintln!(rt; "answering: {complaint}");
+            let _ = println!(Output::Error; "answering: {complaint}");
         }
         return;
     }

@@ -54,10 +54,11 @@ pub fn read_number(input: &mut impl Read) -> Option<usize> {
 // The number that begins a case; none where the stream ends before it.
 pub fn read_first(input: &mut impl Read) -> Option<Option<usize>> {
     let mut bytes = [0u8; WORD_BYTES];
-    if input.read(&mut bytes[..1]).unwrap_or(0) == 0 {
+    let begun = input.read(&mut bytes).unwrap_or(0);
+    if begun == 0 {
         return Some(None);
     }
-    input.read_exact(&mut bytes[1..]).ok()?;
+    input.read_exact(&mut bytes[begun..]).ok()?;
     Some(Some(u64::from_le_bytes(bytes) as usize))
 }
 

@@ -6,6 +6,7 @@ ghost use Rattle.std.specs.Prelude.{suc, ◌+◌, ◌≤◌, ◌<◌, length};
 ghost use Rattle.rules.specs.Limits.{max_n};
 ghost use Rattle.rules.specs.Counts.{pairs_below, number_of_pair};
 
+use showing::streams::Screen;
 use std::io;
 
 const MARK: u8 = b'.';
@@ -47,7 +48,7 @@ fn run(rt: &impl Print) -> io::Result<()> {
     show(rt, 99327, 2, 0, 1, 0)
 }
 
-fn main(rt: HostRuntime) {
-    // a line that cannot be written ends the run
-    let _ = run(&rt);
+fn main() {
+    // what cannot be written is left out
+    let _ = run(&Screen);
 }

@@ -6,6 +6,7 @@
 ghost use Rattle.std.specs.Prelude.{◌≤◌, length};
 
 use rules::Refusal;
+use showing::streams::Screen;
 use std::io;
 
 const FOLDER: [u8; 38] = [
@@ -121,7 +122,7 @@ fn run(rt: &impl Print, folder: &[u8]) -> io::Result<()>
     print_clause(rt, &folder[..37], 1, 99, 0)
 }
 
-fn main(rt: HostRuntime) {
-    // a line that cannot be written ends the run
-    let _ = run(&rt, &FOLDER);
+fn main() {
+    // what cannot be written is left out
+    let _ = run(&Screen, &FOLDER);
 }

@@ -6,6 +6,7 @@ ghost use Rattle.std.specs.Prelude.{◌≤◌};
 
 use rules::{Reading, Refusal};
 use showing::{name_of, print_refusal, print_row};
+use showing::streams::Screen;
 use std::io;
 
 const ROW_WORDS: usize = 8;
@@ -70,10 +71,10 @@ fn run(rt: &impl Print, file: &[u8]) -> io::Result<()> {
     Ok(())
 }
 
-fn main(rt: HostRuntime) {
-    // a line that cannot be written ends the run
+fn main() {
+    // what cannot be written is left out
     let _ = run(
-        &rt,
+        &Screen,
         b"\x10\x00\x02\x00\x12\x00\x02\x00\x14\x00\x02\x00\x16\x00\x10\x00\x02\x02\x00\x00\x01\x01\x01\x01\x00\x00\x00\x01\x02\x02\x00\x01\x01\x00\x00\x00\x01\x01",
     );
 }

@@ -14,6 +14,7 @@ use output::feeding;
 use output::feeding::LINE_ROOM;
 use rules::{Phase, Reading, Refusal};
 use showing::{name_of, print_refusal};
+use showing::streams::Screen;
 use std::io::Result;
 
 // Standard input, by its number.
@@ -235,13 +236,13 @@ fn run(
     Ok(())
 }
 
-fn main(rt: HostRuntime) {
+fn main() {
     // the kit's `io` fills the room in one call; by std's `Read` it would be a loop of reads
     let mut input = io::large_buffer();
     let mut given = [0u64; ROW_WORDS];
     let mut truth = [0u64; ROW_WORDS];
     let mut line = [0u8; LINE_ROOM];
     let n = io::read_full(STDIN_FILENO, &mut input);
-    // a line that cannot be written ends the run
-    let _ = run(&rt, &input[..n], &mut given, &mut truth, &mut line);
+    // what cannot be written is left out
+    let _ = run(&Screen, &input[..n], &mut given, &mut truth, &mut line);
 }

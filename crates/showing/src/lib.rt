@@ -1,6 +1,8 @@
 // What several of the programs that run stored cases show alike.
 #![tactic(auto)]
 
+pub mod streams;
+
 ghost use Rattle.std.specs.Prelude.{◌≡◌};
 ghost use Rattle.showing.specs.Names.{name_of};
 

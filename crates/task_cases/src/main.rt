@@ -10,6 +10,7 @@ ghost use Rattle.rules.specs.File.{file_verdict};
 ghost use Rattle.task.specs.Asked.{task_in};
 
 use showing::print_verdict;
+use showing::streams::Screen;
 use std::io::Result;
 use task::index::INDEX_LENGTH;
 use task::indexed::IndexedFile;
@@ -161,7 +162,9 @@ fn digit(b: u8) -> usize
 }
 
 // The decimal number that begins a text.
-fn decimal(text: &[u8]) -> usize {
+fn decimal(text: &[u8]) -> usize
+    ensures { result ≤ 1000000 }
+{
     let mut n = 0;
     for b in text {
         let d = digit(*b);
@@ -190,7 +193,9 @@ fn byte_of(high: usize, low: usize) -> u8
 }
 
 // How often the byte stands that a text begins with.
-fn times(text: &[u8]) -> usize {
+fn times(text: &[u8]) -> usize
+    ensures { result ≤ 1000000 }
+{
     match text {
         [_, _, b'*', behind @ ..] => decimal(behind),
         _ => 1,
@@ -232,11 +237,11 @@ fn run(rt: &impl Print, text: &[u8], file: &mut [u8]) -> Result<()> {
     Ok(())
 }
 
-fn main(rt: HostRuntime) {
+fn main() {
     // the kit's `io` fills the room in one call; by std's `Read` it would be a loop of reads
     let mut input = io::large_buffer();
     let n = io::read_full(STDIN_FILENO, &mut input);
     let mut file = [0; ROOM];
-    // a line that cannot be written ends the run
-    let _ = run(&rt, &input[..n], &mut file);
+    // what cannot be written is left out
+    let _ = run(&Screen, &input[..n], &mut file);
 }

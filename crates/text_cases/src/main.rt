@@ -7,6 +7,7 @@ ghost use Rattle.std.specs.Prelude.{◌≤◌, length};
 
 use rules::Refusal;
 use showing::print_refusal;
+use showing::streams::{Input, Screen};
 use std::io;
 use std::io::Read;
 use text::calls::{clause_line, header, lines};
@@ -148,12 +149,12 @@ fn show_folder(rt: &impl Print, folder: &[u8]) -> io::Result<()>
     show_refused(rt, folder)
 }
 
-fn main(rt: HostRuntime) {
+fn main() {
     let mut folder = [0u8; FOLDER_LENGTH];
     // a shorter file is not shown
-    if rt.stdin().read_exact(&mut folder).is_err() {
+    if Input.read_exact(&mut folder).is_err() {
         return;
     }
-    // a line that cannot be written ends the run
-    let _ = show_folder(&rt, &folder);
+    // what cannot be written is left out
+    let _ = show_folder(&Screen, &folder);
 }

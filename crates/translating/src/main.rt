@@ -9,6 +9,7 @@ ghost use Rattle.std.specs.Prelude.{◌<◌};
 use reader::limits::{BYTE_VALUES, MAX_VARIABLES};
 use refusals::{detail_of, number_of};
 use rules::Refusal;
+use showing::streams::{Input, Output};
 use std::io::Read;
 use translator::ending::finish;
 use translator::intake::{Intake, begin, take_bytes};
@@ -21,6 +22,11 @@ const ROOM_BYTES: usize = 20000;
 
 // A number of the head.
 const NUMBER_BYTES: usize = 4;
+
+const HEAD_BYTES: usize = 12;
+
+// A number in one byte, and a detail.
+const ANSWER_BYTES: usize = 9;
 
 const FILLED: u8 = 165;
 
@@ -71,8 +77,10 @@ fn answer_to(text: &[u8], piece: usize, room: &mut [u8]) -> Result<usize, Refusa
 
 // Nothing where the answer cannot be written.
 fn reply(output: &impl Print, number: usize, detail: usize, room: &[u8]) -> Option<()> {
-    output.write_all(&[(number % BYTE_VALUES) as u8]).ok()?;
-    output.write_all(&(detail as u64).to_le_bytes()).ok()?;
+    let mut answer = [0u8; ANSWER_BYTES];
+    answer[0] = (number % BYTE_VALUES) as u8;
+    answer[1..].copy_from_slice(&(detail as u64).to_le_bytes());
+    output.write_all(&answer).ok()?;
     output.write_all(room).ok()
 }
 
@@ -84,12 +92,6 @@ fn reply_to(output: &impl Print, text: &[u8], piece: usize, room: &mut [u8]) -> 
     }
 }
 
-fn read_number(input: &mut impl Read) -> Option<usize> {
-    let mut bytes = [0u8; NUMBER_BYTES];
-    input.read_exact(&mut bytes).ok()?;
-    Some(u32::from_le_bytes(bytes) as usize)
-}
-
 // Nothing where there was no case, or its answer cannot be written.
 fn next_case(
     input: &mut impl Read,
@@ -97,22 +99,25 @@ fn next_case(
     text: &mut [u8],
     room: &mut [u8],
 ) -> Option<()> {
-    let lent = read_number(input)?;
-    let piece = read_number(input)?;
-    let long = read_number(input)?;
-    let room = room.get_mut(..lent)?;
-    let text = text.get_mut(..long)?;
+    // one read, as a packet is lost behind what is read of it
+    let mut head = [0u8; HEAD_BYTES];
+    input.read_exact(&mut head).ok()?;
+    let ([lent, piece, long], _) = head.as_chunks::<NUMBER_BYTES>() else {
+        return None;
+    };
+    let room = room.get_mut(..u32::from_le_bytes(*lent) as usize)?;
+    let text = text.get_mut(..u32::from_le_bytes(*long) as usize)?;
     input.read_exact(text).ok()?;
-    reply_to(output, text, piece, room)
+    reply_to(output, text, u32::from_le_bytes(*piece) as usize, room)
 }
 
-fn main(rt: HostRuntime) {
-    let mut input = rt.stdin();
+fn main() {
+    let mut input = Input;
     let mut text = [0u8; TEXT_BYTES];
     let mut room = [0u8; ROOM_BYTES];
     // nothing says that standard input ends
     for _ in 0..u64::MAX {
-        if next_case(&mut input, &rt, &mut text, &mut room).is_none() {
+        if next_case(&mut input, &Output::Standard, &mut text, &mut room).is_none() {
             return;
         }
     }

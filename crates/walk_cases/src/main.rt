@@ -5,6 +5,7 @@
 
 ghost use Rattle.std.specs.Prelude.{◌<◌, length};
 
+use showing::streams::Screen;
 use std::io;
 
 const SHOWN: usize = 4;
@@ -94,7 +95,7 @@ fn run(rt: &impl Print) -> io::Result<()> {
     )
 }
 
-fn main(rt: HostRuntime) {
-    // a line that cannot be written ends the run
-    let _ = run(&rt);
+fn main() {
+    // what cannot be written is left out
+    let _ = run(&Screen);
 }
