@@ -35,8 +35,11 @@ pub fn put_text(out: &mut [u8], at: usize, text: &[u8]) -> usize
     ensures written { out.new ≡ over out.old at text.now }
     ensures behind { result ≡ at + length text.now }
 {
-    let end = at + text.len();
-    out[at..end].copy_from_slice(text);
+    // Not `copy_from_slice`: the archive for C would need the name `memmove` from outside.
+    let mut end = at;
+    for b in text {
+        end = put_byte(out, end, *b);
+    }
     end
 }
 
