@@ -7,14 +7,14 @@
 // An answer is "next" and how far the reading is, or "refused", number and detail; then the first words of both rows.
 #![tactic(auto)]
 
-ghost use Rattle.std.specs.Prelude.{◌<◌, ◌≤◌, length, IfOk};
+ghost use Rattle.std.specs.Prelude.{◌≡◌, ◌<◌, ◌≤◌, ◌-◌, length, IfOk};
 
 use lent_bytes::words::line_end;
 use output::feeding;
 use output::feeding::LINE_ROOM;
 use rules::{Phase, Reading, Refusal};
-use showing::{name_of, print_refusal};
 use showing::streams::Screen;
+use showing::{name_of, print_refusal};
 use std::io::Result;
 
 // Standard input, by its number.
@@ -68,10 +68,17 @@ fn block_end(input: &[u8], from: usize) -> usize
     end
 }
 
+// What stands behind `at`, found at once: `skip` would walk to it.
+fn behind(input: &[u8], at: usize) -> &[u8]
+    ensures { length result.now ≡ length input.now - at }
+{
+    &input[at.min(input.len())..]
+}
+
 // The number that stands behind `at`, cut off where it grows too large.
 fn number_behind(input: &[u8], at: usize) -> u64 {
     let mut sum: u64 = 0;
-    for b in input.iter().skip(at) {
+    for b in behind(input, at) {
         let b = *b;
         if !b.is_ascii_digit() {
             return sum;
@@ -85,7 +92,7 @@ fn number_behind(input: &[u8], at: usize) -> u64 {
 
 // Behind the next space, or the end.
 fn next_word(input: &[u8], at: usize) -> usize {
-    match input.iter().skip(at).position(|b| *b == b' ') {
+    match behind(input, at).iter().position(|b| *b == b' ') {
         Some(many) => at + many + 1,
         None => input.len(),
     }
