@@ -5,8 +5,8 @@
 ghost use Rattle.std.specs.Prelude.{◌≤◌};
 
 use rules::{Reading, Refusal};
-use showing::{name_of, print_refusal, print_row};
 use showing::streams::Screen;
+use showing::{name_of, print_refusal, print_row};
 use std::io;
 
 const ROW_WORDS: usize = 8;

@@ -4,8 +4,8 @@
 
 ghost use Rattle.std.specs.Prelude.{◌≤◌};
 
-use showing::{print_row, print_verdict};
 use showing::streams::Screen;
+use showing::{print_row, print_verdict};
 use std::io;
 
 const ROW_WORDS: usize = 8;
