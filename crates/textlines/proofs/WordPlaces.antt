@@ -2,7 +2,7 @@
 -- Assumes nothing.
 use mathlib.Core.Path.{◌≡◌, refl, sym, ap, ap₂, ◌∙◌}
 use mathlib.Core.List.{List, [], ◌∷◌}
-use Prim.Native.Nat.{ℕ, zero, suc, ◌+◌, ◌-◌, ◌≤◌, ◌<◌}
+use Prim.Native.Nat.{ℕ, zero, suc, ◌+◌, ◌-◌, ◌≤◌, ◌<◌, min}
 use native.Mathlib.Omega.{arith}
 use native.Mathlib.Numerals.{add-one}
 use borrow.Author.Tests.{eq-eqb, eqb-true}
@@ -14,7 +14,10 @@ use denote.Ref.{Bor}
 use Rattle.std.specs.Prelude.{Option, None, Some}
 use Rattle.std.specs.Option.{unwrap_or, option_map}
 use Rattle.std.proofs.lemmas.Option.{unwrap_or-slice_get}
-use Rattle.std.specs.List.{slice_get, slice_split, onto_first}
+use Rattle.std.proofs.lemmas.List.{length-take}
+use Rattle.std.proofs.lemmas.List.Splits.{length-slice_split}
+use Rattle.std.proofs.lemmas.List.Sums.{length-filter}
+use Rattle.std.specs.List.{slice_get, slice_split, onto_first, filter, count_by}
 use Rattle.rules.specs.Lines.{onto, pieces}
 use Rattle.rules.specs.Format.{word_at, word_count}
 use Rattle.rules.proofs.Bools.{same_truth}
@@ -101,6 +104,17 @@ line_split (b ∷ s) = rw (line_split s, onto_is b (pieces space s)) refl
 pub count_split : (s : List ℕ) (n count : ℕ) → n ≡ length (slice_split (λ b. eqb b space) s) → eqb n count ≡ eqb (word_count s) count
 unfolding word_count
 count_split s n count e = ap (λ m. eqb m count) (e ∙ ap length (line_split s))
+
+-- at most so many spaces are counted
+pub count_spaces : (s : List ℕ) (n count : ℕ) → n ≡ length (take count (filter (λ b. eqb b space) s)) → eqb (n + 1) count ≡ eqb (word_count s) count
+count_spaces s n count e =
+    let p = λ (b : ℕ). eqb b space in
+    let cut : n ≡ min count (count_by p s) = e ∙ length-take count (filter p s) ∙ ap (min count) (length-filter p s) in
+    let words : length (slice_split p s) ≡ count_by p s + 1 = length-slice_split p s in
+    same_truth (eqb (n + 1) count) (eqb (length (slice_split p s)) count)
+    (λ t. eq-eqb _ _ (let same = eqb-true (n + 1) count t in omega (arith, same)))
+    (λ t. eq-eqb _ _ (let same = eqb-true (length (slice_split p s)) count t in omega (arith, same)))
+    ∙ count_split s _ count refl
 
 module _ (s : List ℕ) (i : ℕ) (d w : Bor (List ℕ)) where
   unwrapped : (r : Option (Bor (List ℕ))) → w ≡ unwrap_or r d → d.now ≡ [] → w.now ≡ unwrap_or (option_map (λ b. b.now) r) []

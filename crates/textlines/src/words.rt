@@ -9,9 +9,9 @@ pub fn word_at(line: &[u8], i: usize) -> &[u8]
     line.split(|&b| b == b' ').nth(i).unwrap_or(&line[..0])
 }
 
-// Whether a line has so many words.
+// Whether a line has so many words, which is one more than it has spaces: nothing behind that many spaces is read.
 pub fn has_words(line: &[u8], count: usize) -> bool
     ensures { result ≡ eqb (word_count line.now) count }
 {
-    line.split(|&b| b == b' ').count() == count
+    line.iter().filter(|&&b| b == b' ').take(count).count() + 1 == count
 }
