@@ -1,8 +1,6 @@
 // A line that has ended: judged as the line that is due, and what it adds kept.
-ghost use Rattle.std.specs.Prelude.{◌≡◌, List, ℕ, ◌≤◌, length, take};
+ghost use Rattle.std.specs.Prelude.{◌≡◌, List, ℕ, ◌≤◌, length};
 ghost use Rattle.bodies.specs.Keeping.{Sound};
-ghost use Rattle.textlines.specs.Says.{says_as};
-ghost use Rattle.translator.specs.Position.{line_due};
 ghost use Rattle.translator.specs.Intake.{Memory, lent_in, SameParts, Lent, kept_in, keep_line, one_more, head_room, taken, Ready, read_on, stopped_for, after_line, end_line, last_said, last_line};
 
 use crate::intake::Intake;
@@ -41,8 +39,16 @@ impl Intake {
         ensures sound { Sound result.kept }
         ensures same { SameParts parts.old parts.new }
     {
+        let position = self.position.moved_on(due, said.first);
+        let lines = one_more(self.lines);
         let kept = keep_line(due, said, self.kept, parts);
-        self.read(due, said, kept)
+        Intake {
+            position,
+            lines,
+            verdict: Ok(()),
+            kept,
+            held: 0,
+        }
     }
 
     // A line that was against the rules ends the reading.
@@ -74,15 +80,6 @@ impl Intake {
         }
     }
 
-    // What the line that is held says as the line that is due.
-    fn held_says(self, line: &[u8]) -> Result<Numbers, Refusal>
-        requires { (self.held ≤ head_room) × (head_room ≤ length line.now) }
-        ensures { result ≡ says_as (line_due self.position) (one_more self.lines) (take self.held line.now) }
-    {
-        let at = one_more(self.lines);
-        textlines::says(self.position.line_due(), at, &line[..self.held])
-    }
-
     // The line that is held ends: it is judged as the line that is due.
     #[tactic(auto, unfolding(crate::specs::Intake::end_line))]
     pub(crate) fn end_line(self, parts: &mut Parts<'_>, line: &[u8]) -> Intake
@@ -95,7 +92,9 @@ impl Intake {
         let Ok(()) = verdict else {
             return self;
         };
-        self.after_line(self.position.line_due(), self.held_says(line), parts)
+        let due = self.position.line_due();
+        let said = textlines::says(due, one_more(self.lines), &line[..self.held]);
+        self.after_line(due, said, parts)
     }
 
     // What a last line said decides. One that was in order ends the text, or the text stops early, and what it adds matters to neither.
@@ -122,6 +121,8 @@ impl Intake {
         let Ok(()) = verdict else {
             return self;
         };
-        self.last_said(self.position.line_due(), self.held_says(line))
+        let due = self.position.line_due();
+        let said = textlines::says(due, one_more(self.lines), &line[..self.held]);
+        self.last_said(due, said)
     }
 }
