@@ -1,6 +1,7 @@
 // A line that has ended: judged as the line that is due, and what it adds kept.
-ghost use Rattle.std.specs.Prelude.{◌≡◌, List, ℕ, ◌≤◌, length};
+ghost use Rattle.std.specs.Prelude.{◌≡◌, List, ℕ, ◌≤◌, length, take};
 ghost use Rattle.bodies.specs.Keeping.{Sound};
+ghost use Rattle.textlines.specs.Says.{says_as};
 ghost use Rattle.translator.specs.Intake.{Memory, lent_in, SameParts, Lent, kept_in, keep_line, one_more, head_room, taken, Ready, read_on, stopped_for, after_line, end_line, last_said, last_line};
 
 use crate::intake::Intake;
@@ -39,6 +40,7 @@ impl Intake {
         ensures sound { Sound result.kept }
         ensures same { SameParts parts.old parts.new }
     {
+        // Stated here: by `self.read(due, said, kept)` a text of operators takes a seventh more instructions.
         let position = self.position.moved_on(due, said.first);
         let lines = one_more(self.lines);
         let kept = keep_line(due, said, self.kept, parts);
@@ -80,6 +82,14 @@ impl Intake {
         }
     }
 
+    // What the line that is held says as a line that is due.
+    fn held_says(&self, due: FormatLine, line: &[u8]) -> Result<Numbers, Refusal>
+        requires { (self.now.held ≤ head_room) × (head_room ≤ length line.now) }
+        ensures { result ≡ says_as due (one_more self.now.lines) (take self.now.held line.now) }
+    {
+        textlines::says(due, one_more(self.lines), &line[..self.held])
+    }
+
     // The line that is held ends: it is judged as the line that is due.
     #[tactic(auto, unfolding(crate::specs::Intake::end_line))]
     pub(crate) fn end_line(self, parts: &mut Parts<'_>, line: &[u8]) -> Intake
@@ -93,7 +103,7 @@ impl Intake {
             return self;
         };
         let due = self.position.line_due();
-        let said = textlines::says(due, one_more(self.lines), &line[..self.held]);
+        let said = self.held_says(due, line);
         self.after_line(due, said, parts)
     }
 
@@ -122,7 +132,7 @@ impl Intake {
             return self;
         };
         let due = self.position.line_due();
-        let said = textlines::says(due, one_more(self.lines), &line[..self.held]);
+        let said = self.held_says(due, line);
         self.last_said(due, said)
     }
 }
