@@ -191,7 +191,10 @@ fn main() {
             continue;
         };
         if let Some(complaint) = stop {
-            let _ = println!(Output::Error; "answering: {complaint}");
+            // in three pieces, each written whatever became of the one before
+            let _ = Output::Error.write_all(b"answering: ");
+            let _ = Output::Error.write_all(complaint.as_bytes());
+            let _ = Output::Error.write_all(b"\n");
         }
         return;
     }

@@ -58,7 +58,10 @@ pub fn read_first(input: &mut impl Read) -> Option<Option<usize>> {
     if begun == 0 {
         return Some(None);
     }
-    input.read_exact(&mut bytes[begun..]).ok()?;
+    // what is read fills its room but at the end
+    if begun < WORD_BYTES {
+        return None;
+    }
     Some(Some(u64::from_le_bytes(bytes) as usize))
 }
 

@@ -29,6 +29,9 @@ fn print_literal(rt: &impl Print, literal: i32) -> io::Result<()> {
     if literal < -HIGHEST || HIGHEST < literal {
         return print!(rt; " beyond");
     }
+    if literal < 0 {
+        return print!(rt; " -{}", -literal);
+    }
     print!(rt; " {literal}")
 }
 
@@ -75,8 +78,8 @@ fn print_clause(
 fn print_counts(rt: &impl Print, file: &[u8], horizon: usize) -> io::Result<()> {
     match formula::calls::counts(file, horizon) {
         Ok(counts) => {
-            println!(rt;
-                "{} variables, {} clauses",
+            print!(rt;
+                "{} variables, {} clauses\n",
                 counts.variables, counts.clauses
             )
         }

@@ -6,7 +6,7 @@ ghost use Rattle.std.specs.Prelude.{◌≤◌};
 
 use rules::{Reading, Refusal};
 use showing::streams::Screen;
-use showing::{name_of, print_refusal, print_row};
+use showing::{print_phase, print_refusal, print_row};
 use std::io;
 
 const ROW_WORDS: usize = 8;
@@ -18,10 +18,13 @@ fn print_answer(rt: &impl Print, answer: Result<Reading, Refusal>) -> io::Result
     match answer {
         Ok(reading) => {
             let phase = reading.phase;
-            print!(rt; " : next {} {}", reading.highest, name_of(phase))
+            print!(rt; " : next")?;
+            print!(rt; " {}", reading.highest)?;
+            print_phase(rt, " ", phase)
         }
         Err(why) => {
-            print!(rt; " : refused ")?;
+            print!(rt; " : refused")?;
+            print!(rt; " ")?;
             print_refusal(rt, why)
         }
     }
@@ -33,7 +36,10 @@ fn begin(rt: &impl Print, file: &[u8], horizon: usize, given: usize, truth: usiz
 {
     let mut given_row = [7u64; ROW_WORDS];
     let mut truth_row = [7u64; ROW_WORDS];
-    print!(rt; "k {horizon} : {given} {truth}")?;
+    print!(rt; "k")?;
+    print!(rt; " {horizon}")?;
+    print!(rt; " :")?;
+    print!(rt; " {given} {truth}")?;
     let answer = opening::start(
         file,
         horizon,

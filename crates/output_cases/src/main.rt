@@ -14,7 +14,7 @@ use output::feeding;
 use output::feeding::LINE_ROOM;
 use rules::{Phase, Reading, Refusal};
 use showing::streams::Screen;
-use showing::{name_of, print_refusal};
+use showing::{print_phase, print_refusal};
 use std::io::Result;
 
 // Standard input, by its number.
@@ -39,10 +39,11 @@ fn print_answer(
     match answer {
         Ok(reading) => {
             let phase = reading.phase;
-            print!(rt; "next {}", name_of(phase))?;
+            print_phase(rt, "next ", phase)?;
         }
         Err(why) => {
-            print!(rt; "refused ")?;
+            print!(rt; "refused")?;
+            print!(rt; " ")?;
             print_refusal(rt, why)?;
         }
     }

@@ -14,7 +14,9 @@ const ROW_WORDS: usize = 8;
 const ENTRIES: u32 = 4;
 
 fn print_entries(rt: &impl Print, horizon: usize, entries: &[u32]) -> io::Result<()> {
-    print!(rt; "k {horizon} :")?;
+    print!(rt; "k")?;
+    print!(rt; " {horizon}")?;
+    print!(rt; " :")?;
     for entry in entries {
         print!(rt; " {entry}")?;
     }
@@ -23,7 +25,8 @@ fn print_entries(rt: &impl Print, horizon: usize, entries: &[u32]) -> io::Result
 
 fn judge(rt: &impl Print, file: &[u8], horizon: usize, entries: &[u32]) -> io::Result<()> {
     print_entries(rt, horizon, entries)?;
-    print!(rt; " : ")?;
+    print!(rt; " :")?;
+    print!(rt; " ")?;
     print_verdict(rt, schedule::schedule_checked(file, horizon, entries))?;
     println!(rt; "")
 }
@@ -42,7 +45,8 @@ fn go_back(
     let mut given_row = [7u64; ROW_WORDS];
     let mut truth_row = [7u64; ROW_WORDS];
     print_entries(rt, horizon, entries)?;
-    print!(rt; " : ")?;
+    print!(rt; " :")?;
+    print!(rt; " ")?;
     print_verdict(rt, schedule::schedule_checked(file, horizon, entries))?;
     let verdict = schedule::way_back(
         file,
@@ -51,7 +55,8 @@ fn go_back(
         &mut given_row[..given],
         &mut truth_row[..truth],
     );
-    print!(rt; " : ")?;
+    print!(rt; " :")?;
+    print!(rt; " ")?;
     print_verdict(rt, verdict)?;
     print_row(rt, &given_row)?;
     print_row(rt, &truth_row)?;

@@ -18,7 +18,7 @@ pub fn print_refusal(rt: &impl Print, why: Refusal) -> io::Result<()> {
 // Number and detail of the refusal, 0 and 0 at acceptance.
 pub fn print_verdict(rt: &impl Print, verdict: Result<(), Refusal>) -> io::Result<()> {
     match verdict {
-        Ok(()) => print!(rt; "0 0"),
+        Ok(()) => print!(rt; "{} {}", 0, 0),
         Err(why) => print_refusal(rt, why),
     }
 }
@@ -35,6 +35,21 @@ pub fn name_of(phase: Phase) -> &'static str
         Phase::SaidUnsatisfiable => "unsatisfiable",
         Phase::SaidUnknown => "unknown",
     }
+}
+
+// The longest piece that `print_phase` writes.
+const PIECE: usize = 32;
+
+// A text and the name of how far a reading is, in one piece.
+pub fn print_phase(rt: &impl Print, before: &str, phase: Phase) -> io::Result<()> {
+    let mut piece = [0u8; PIECE];
+    let before = before.as_bytes();
+    let name = name_of(phase).as_bytes();
+    for (to, from) in piece.iter_mut().zip(before.iter().chain(name.iter())) {
+        *to = *from;
+    }
+    let bytes = before.len().saturating_add(name.len()).min(PIECE);
+    rt.write_all(&piece[..bytes])
 }
 
 // The words of a row, behind a colon.

@@ -17,6 +17,14 @@ impl Read for Input {
     fn read(&mut self, room: &mut [u8]) -> Result<usize> {
         Ok(io::read_full(STDIN_FILENO, room))
     }
+
+    // Not std's, which reads again behind a short read: that one has met the end already.
+    fn read_exact(&mut self, room: &mut [u8]) -> Result<()> {
+        if io::read_full(STDIN_FILENO, room) < room.len() {
+            return Err(Error::from(ErrorKind::UnexpectedEof));
+        }
+        Ok(())
+    }
 }
 
 // Of a write that fails no more is told than that it did.
