@@ -7,7 +7,7 @@
 // An answer is "next" and how far the reading is, or "refused", number and detail; then the first words of both rows.
 #![tactic(auto)]
 
-ghost use Rattle.std.specs.Prelude.{◌≡◌, ◌<◌, ◌≤◌, ◌-◌, length, IfOk};
+ghost use Rattle.std.specs.Prelude.{◌≡◌, ◌<◌, ◌≤◌, length, drop, IfOk};
 
 use lent_bytes::words::line_end;
 use output::feeding;
@@ -71,9 +71,12 @@ fn block_end(input: &[u8], from: usize) -> usize
 
 // What stands behind `at`, found at once: `skip` would walk to it.
 fn behind(input: &[u8], at: usize) -> &[u8]
-    ensures { length result.now ≡ length input.now - at }
+    ensures { result.now ≡ drop at input.now }
 {
-    &input[at.min(input.len())..]
+    if input.len() < at {
+        return &input[input.len()..];
+    }
+    &input[at..]
 }
 
 // The number that stands behind `at`, cut off where it grows too large.
